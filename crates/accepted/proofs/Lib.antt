@@ -1,0 +1,6 @@
+pub mod Records
+pub mod Faultless
+pub mod Engines
+pub mod ByNumber
+pub mod Causes
+pub mod Ranges

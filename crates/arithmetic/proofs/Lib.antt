@@ -1,0 +1,7 @@
+pub mod Booleans
+pub mod Order
+pub mod Lists
+pub mod Pairs
+pub mod Integers
+pub mod Tables
+pub mod Chain

@@ -1,0 +1,28 @@
+-- Sheets written by their fields, so that a table of cases can be read.
+use Prim.Native.Nat.{ℕ, zero, suc, _/_, _%_}
+use mathlib.Core.List.{List, [], _∷_, _++_}
+use lib.ListN.{replicate}
+
+-- a number in four bytes, little-endian
+abbrev pub u32 : ℕ → List ℕ
+u32 x = x % 256 ∷ x / 256 % 256 ∷ x / 65536 % 256 ∷ x / 16777216 ∷ []
+
+-- kind 1
+abbrev pub pollutant : (number plan limit deviation : ℕ) → List ℕ
+pollutant p plan L t = (1 ∷ p ∷ plan ∷ 0 ∷ []) ++ u32 L ++ u32 t ++ replicate 8 0
+
+-- kind 2
+abbrev pub engine : (cause x₁ x₂ x₃ x₄ : ℕ) → List ℕ
+engine c x₁ x₂ x₃ x₄ = (2 ∷ 0 ∷ c % 256 ∷ c / 256 ∷ []) ++ u32 x₁ ++ u32 x₂ ++ u32 x₃ ++ u32 x₄
+
+-- an engine measured for pollutant 1 alone
+abbrev pub measured : ℕ → List ℕ
+measured x = engine 0 x 0 0 0
+
+-- kind 3
+abbrev pub stop : List ℕ
+stop = 3 ∷ replicate 19 0
+
+abbrev pub times : ℕ → List ℕ → List ℕ
+times zero b = []
+times (suc n) b = b ++ times n b

@@ -1,0 +1,90 @@
+-- Document 01, "Series that stand on a line", a sheet for each refusal, and two series on which two C libraries' logarithms disagree.
+-- `table-holds` is the computed check: judging each sheet gives the answer beside it.
+use Prim.Native.Nat.{ℕ}
+use mathlib.Core.Path.{_≡_, refl}
+use mathlib.Core.List.{List, [], _∷_, _++_, map}
+use lib.ListN.{replicate}
+use Rattle.rules.specs.Tools.{total}
+use Rattle.rules.specs.Logarithm.{squarings, digits, bits, logarithm, g}
+use Rattle.rules.specs.Sheet.{pollutants, cut, records, kind, number, plan, limit, deviation, cause, measurement, ofKind, planNumber, declared, declares, gross}
+use Rattle.rules.specs.Sheet.{pollutant as pollutantOf}
+use Rattle.rules.specs.Plans.{planOf, decide, knownPasses, knownFails, atMostRoot, atLeastRoot, unknownNumbers, inServiceNumbers, rootPasses, rootFails, attributesPasses, attributesFails, rowPasses, rowFails, row}
+use Rattle.rules.specs.Series.{inServiceBefore, beforeRow, look, settle, unlooked, after, pairs, judgeRecords, pair, Answer, refusal, judgement}
+use Rattle.rules.specs.Refusals.{misplaced, badNumber, badPlan, badLimit, badDeviation, badMeasurement, badCause, tooMany, nonzero, unused, faults, faultOf, checkFrom, badLength, check}
+use Rattle.rules.specs.Operations.{judge}
+use Rattle.cases.specs.Bytes.{pollutant, engine, measured, stop, times}
+
+-- * "g(1) = 0, g(2) = 65536, g(3) = 103872, g(1000) = 653117"; g is 0 outside its range
+logarithms : map (g squarings) (1 ∷ 2 ∷ 3 ∷ 1000 ∷ 0 ∷ 10000000 ∷ []) ≡ 0 ∷ 65536 ∷ 103872 ∷ 653117 ∷ 0 ∷ 0 ∷ []
+unfolding g logarithm bits digits
+logarithms = refl
+
+-- a sheet and what judging answers for it
+record Case : Type 0 where
+  sheet : List ℕ
+  answer : Answer
+
+abbrev _↦→_ : List ℕ → Answer → Case
+b ↦→ a = record { sheet = b; answer = a }
+
+infix 20 _↦→_
+-- an answer in which pollutant 1 alone may be decided
+abbrev one : (verdict engine ground decision decidedAt : ℕ) → Answer
+one v n ground decision at = judgement v n ground (pair decision at ∷ replicate 3 (pair 0 0))
+
+table : List Case
+table =
+    -- * "Plan 1, L 4000, three at 2000: t 625,020 passes, 625,021 another"
+    (pollutant 1 1 4000 625020 ++ times 3 (measured 2000) ↦→ one 1 3 1 1 3)
+    ∷ (pollutant 1 1 4000 625021 ++ times 3 (measured 2000) ↦→ one 0 3 0 0 0)
+    -- * "Three at 8000: t 440,186 fails, 440,187 another"
+    ∷ (pollutant 1 1 4000 440186 ++ times 3 (measured 8000) ↦→ one 2 3 1 2 3)
+    ∷ (pollutant 1 1 4000 440187 ++ times 3 (measured 8000) ↦→ one 0 3 0 0 0)
+    -- * "Plan 2, L 4000: three at 4000 pass (W = 0). 4000, 4000, 2000: another."
+    ∷ (pollutant 1 2 4000 0 ++ times 3 (measured 4000) ↦→ one 1 3 1 1 3)
+    ∷ (pollutant 1 2 4000 0 ++ times 2 (measured 4000) ++ measured 2000 ↦→ one 0 3 0 0 0)
+    -- * "Three at 8000 fail. 8000, 8000, 16000: another."
+    ∷ (pollutant 1 2 4000 0 ++ times 3 (measured 8000) ↦→ one 2 3 1 2 3)
+    ∷ (pollutant 1 2 4000 0 ++ times 2 (measured 8000) ++ measured 16000 ↦→ one 0 3 0 0 0)
+    -- * "Plan 4, L 1000: 1500 is no gross emitter, 1501 is": cause 0 is right for the first, and refused for the second
+    ∷ (pollutant 1 4 1000 0 ++ measured 1500 ↦→ one 0 1 0 0 0)
+    ∷ (pollutant 1 4 1000 0 ++ measured 1501 ↦→ refusal 9 1)
+    -- * "Causes 7 and 7 in three: fail, ground 2." "Causes 7 and 8: another."
+    ∷ (pollutant 1 4 1000 0 ++ times 2 (engine 7 1501 0 0 0) ++ measured 900 ↦→ one 2 3 2 0 0)
+    ∷ (pollutant 1 4 1000 0 ++ engine 7 1501 0 0 0 ++ engine 8 1501 0 0 0 ++ measured 900 ↦→ one 0 3 0 0 0)
+    -- "Pollutants and no engine: another at 0; a stop straight after the pollutants: fail at 0, ground 3."
+    ∷ (pollutant 1 1 4000 625020 ↦→ one 0 0 0 0 0)
+    ∷ (pollutant 1 1 4000 625020 ++ stop ↦→ one 2 0 3 0 0)
+    -- "Plan 3, pollutant 4, L 150, four engines at 140"
+    ∷ (pollutant 4 3 150 0 ++ times 4 (engine 0 0 0 0 140) ↦→ judgement 1 4 1 (replicate 3 (pair 0 0) ++ (pair 1 4 ∷ [])))
+    -- refusal 1: no bytes, not whole records, over 740 bytes
+    ∷ ([] ↦→ refusal 1 0)
+    ∷ (1 ∷ [] ↦→ refusal 1 0)
+    ∷ (pollutant 1 1 4000 625020 ++ times 37 (measured 2000) ↦→ refusal 1 0)
+    -- refusal 2, the lowest of many
+    ∷ (replicate 20 9 ↦→ refusal 2 0)
+    -- refusal 3: first record not kind 1, kind 1 after another, anything after kind 3
+    ∷ (stop ↦→ refusal 3 0)
+    ∷ (pollutant 1 3 150 0 ++ measured 1 ++ pollutant 2 3 150 0 ↦→ refusal 3 2)
+    ∷ (pollutant 1 3 150 0 ++ stop ++ stop ↦→ refusal 3 2)
+    -- refusals 4 to 7, of a pollutant
+    ∷ (pollutant 2 3 150 0 ++ pollutant 2 3 150 0 ↦→ refusal 4 1)
+    ∷ (pollutant 2 3 150 0 ++ pollutant 3 2 150 0 ↦→ refusal 5 1)
+    ∷ (pollutant 2 3 10000000 0 ↦→ refusal 6 0)
+    ∷ (pollutant 2 1 10000 4000001 ↦→ refusal 7 0)
+    -- refusals 8 to 10, of an engine
+    ∷ (pollutant 2 2 10000 0 ++ measured 1 ↦→ refusal 8 1)
+    ∷ (pollutant 1 4 10000 0 ++ engine 3 20 0 0 0 ↦→ refusal 9 1)
+    ∷ (pollutant 1 3 150 0 ++ times 20 (measured 150) ↦→ refusal 10 20)
+    -- refusal 11, of a stop; 12, of an engine
+    ∷ (pollutant 1 4 10000 0 ++ stop ↦→ refusal 11 1)
+    ∷ (pollutant 1 3 150 0 ++ 2 ∷ 1 ∷ replicate 18 0 ↦→ refusal 8 1)
+    ∷ (pollutant 1 3 150 0 ++ 3 ∷ 1 ∷ replicate 18 0 ↦→ refusal 12 1)
+    -- two series of seven engines that one C library's logarithm passes at 7 and another's leaves open, each in its own way
+    ∷ (pollutant 1 1 7244722 217432 ++ measured 6054011 ++ measured 7125279 ++ measured 7809388 ++ measured 7501976 ++ measured 5847897 ++ measured 5300524 ++ measured 6870023 ↦→ one 1 7 1 1 7)
+    ∷ (pollutant 1 1 6273177 358586 ++ measured 5905477 ++ measured 5140553 ++ measured 6640553 ++ measured 6153108 ++ measured 3863460 ++ measured 4805799 ++ measured 5534779 ↦→ one 1 7 1 1 7)
+    ∷ []
+
+table-holds : map (λ c. judge pollutants squarings (c .sheet)) table ≡ map (λ c. c .answer) table
+unfolding table total digits bits logarithm g cut records kind number plan limit deviation cause measurement ofKind planNumber pollutantOf declared declares gross planOf decide knownPasses knownFails atMostRoot atLeastRoot unknownNumbers inServiceNumbers rootPasses rootFails attributesPasses attributesFails rowPasses rowFails row inServiceBefore beforeRow look settle unlooked after pairs judgeRecords misplaced badNumber badPlan badLimit badDeviation badMeasurement badCause tooMany nonzero unused faults faultOf checkFrom badLength check judge
+table-holds = refl

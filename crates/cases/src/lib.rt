@@ -1,0 +1,1 @@
+// The worked series of document 01 as a table over the bytes of whole sheets, proved by one computed check. There is no code here: see specs/.

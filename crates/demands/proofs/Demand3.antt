@@ -1,0 +1,56 @@
+-- Demand 3, "about what judging answers for the bytes of whole sheets, all pollutants together, and not about single rows".
+-- The words are document 01's, defined in rules/specs/Demands. Every list of bytes is meant, whatever w and q; the product's are at the end.
+use Prim.Native.Nat.{ℕ, _≤_}
+use native.Mathlib.Omega.{arith}
+use mathlib.Core.Path.{_≡_}
+use mathlib.Core.Logic.{_⊎_}
+use mathlib.Core.List.{List}
+use Rattle.rules.specs.Logarithm.{squarings}
+use Rattle.rules.specs.Sheet.{pollutants, records, planNumber}
+use Rattle.rules.specs.Plans.{lastRow}
+use Rattle.rules.specs.Operations.{judge}
+use Rattle.rules.specs.Demands.{Accepted, Decided, PassesAt, FailsAt, PassesBy, FailsBy, Begins, enginesOf, planOfSheet, Alike, NoneHigher}
+use Rattle.demands.proofs.Kept.{sheet-kept}
+use Rattle.demands.proofs.Ends.{sheet-ends}
+use Rattle.demands.proofs.Lowering.{sheet-passes, sheet-fails}
+
+module _ (w q : ℕ) where
+  -- A sheet once decided keeps its answers in every accepted sheet that begins with it.
+  pub decision-kept : (R S : List ℕ) → Begins S R → Decided w q R → Accepted w q S → judge w q S ≡ judge w q R
+  decision-kept = sheet-kept w q
+
+  -- Every accepted sheet with as many engines as its plan's last row is decided.
+  pub series-ends : (b : List ℕ) → Accepted w q b → enginesOf w b ≡ lastRow (planOfSheet w b) → Decided w q b
+  series-ends = sheet-ends w q
+
+  -- Two accepted sheets in plan 1 or 3, alike in all but the measurements, none higher in the second.
+  -- (The bytes of a limit and a deviation, 4 to 11, lie in a record where the format has room for two pollutants.)
+  module _ (room : 2 ≤ w) (R S : List ℕ) (alike : Alike w R S) (lower : NoneHigher w R S)
+      (plan : (planNumber (records w R) ≡ 1) ⊎ (planNumber (records w R) ≡ 3))
+      (first : Accepted w q R) (second : Accepted w q S) (n : ℕ) where
+    -- If the first passes at n, the second passes at n or sooner.
+    pub lower-passes : PassesAt w q R n → PassesBy w q S n
+    lower-passes = sheet-passes w q room R S alike lower plan first second n
+
+    -- If the second fails at n, by a row or by a stop, the first fails at n or sooner.
+    pub lower-fails : FailsAt w q S n → FailsBy w q R n
+    lower-fails = sheet-fails w q room R S alike lower plan first second n
+
+-- ---- as the product has it: four pollutants, sixteen squarings
+
+pub kept : (R S : List ℕ) → Begins S R → Decided pollutants squarings R → Accepted pollutants squarings S
+    → judge pollutants squarings S ≡ judge pollutants squarings R
+kept = decision-kept pollutants squarings
+
+pub ends : (b : List ℕ) → Accepted pollutants squarings b → enginesOf pollutants b ≡ lastRow (planOfSheet pollutants b)
+    → Decided pollutants squarings b
+ends = series-ends pollutants squarings
+
+module _ (R S : List ℕ) (alike : Alike pollutants R S) (lower : NoneHigher pollutants R S)
+    (plan : (planNumber (records pollutants R) ≡ 1) ⊎ (planNumber (records pollutants R) ≡ 3))
+    (first : Accepted pollutants squarings R) (second : Accepted pollutants squarings S) (n : ℕ) where
+  pub passes-no-later : PassesAt pollutants squarings R n → PassesBy pollutants squarings S n
+  passes-no-later = lower-passes pollutants squarings (omega arith) R S alike lower plan first second n
+
+  pub fails-no-sooner : FailsAt pollutants squarings S n → FailsBy pollutants squarings R n
+  fails-no-sooner = lower-fails pollutants squarings (omega arith) R S alike lower plan first second n

@@ -1,0 +1,20 @@
+-- The test is the definition's, part by part.
+use Rattle.faults.specs.Faults.{badMeasurementBy}
+use borrow.Author.Needs.{needs}
+use Rattle.faults.proofs.fault.bad_measurement.Statement.{statement}
+use Rattle.faults.proofs.fault.bad_measurement.Tie as tie
+
+pub bad-measurement-spec : {M : Type 1} → statement M
+unfolding badMeasurementBy
+bad-measurement-spec =
+    tie.close
+    (tie.spec
+    (λ c κs. search needs)
+    (λ c κs. search needs)
+    (λ c κs. search needs)
+    (λ c κs. search needs)
+    (λ c κs. search needs)
+    (λ c κs. search needs)
+    (λ c κs. search needs)
+    (λ c κs. search needs)
+    (λ c. cc))

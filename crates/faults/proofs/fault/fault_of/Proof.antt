@@ -1,0 +1,23 @@
+-- Each return is one of the definition's.
+use Rattle.arithmetic.proofs.Chain.{chain}
+use Rattle.faults.specs.Faults.{faultBy}
+use borrow.Author.Needs.{needs}
+use Rattle.faults.proofs.fault.fault_of.Statement.{statement}
+use Rattle.faults.proofs.fault.fault_of.Tie as tie
+
+pub fault-of-spec : {M : Type 1} → statement M
+unfolding faultBy
+fault-of-spec =
+    tie.close
+    (tie.spec
+    (λ c κs. search needs)
+    (λ c. search chain depth 9)
+    (λ c κs. search needs)
+    (λ c. search chain depth 9)
+    (λ c κs. search needs)
+    (λ c κs. search needs)
+    (λ c κs. search needs)
+    (λ c κs. search needs)
+    (λ c. search chain depth 9)
+    (λ c. search chain depth 9)
+    (λ c. search chain depth 9))

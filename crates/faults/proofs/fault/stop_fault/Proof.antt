@@ -1,0 +1,16 @@
+-- Each return is one of the definition's.
+use Rattle.arithmetic.proofs.Chain.{chain}
+use Rattle.faults.specs.Faults.{stopFault}
+use borrow.Author.Needs.{needs}
+use Rattle.faults.proofs.fault.stop_fault.Statement.{statement}
+use Rattle.faults.proofs.fault.stop_fault.Tie as tie
+
+pub stop-fault-spec : {M : Type 1} → statement M
+unfolding stopFault
+stop-fault-spec =
+    tie.close
+    (tie.spec
+    (λ c. search chain depth 9)
+    (λ c κs. search needs)
+    (λ c. search chain depth 9)
+    (λ c. search chain depth 9))

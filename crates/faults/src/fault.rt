@@ -1,0 +1,206 @@
+// The lowest refusal number of a record, given what the records before it say. 0: the record has no fault.
+ghost use mathlib.Core.Path.{_≡_};
+ghost use Rattle.rules.specs.Sheet.{pollutants};
+ghost use Rattle.rules.specs.Refusals.{badLimit, badDeviation, unused};
+ghost use Rattle.faults.specs.Faults.{badKind, misplacedBy, badNumberBy, badPlanBy, badValueBy, badMeasurementBy, exceeds, grossBy, badCauseBy, tooManyBy, pollutantFault, engineFault, stopFault, faultBy};
+use crate::Quantities;
+use crate::Sheet;
+use crate::field::cause_of;
+use crate::field::deviation_of;
+use crate::field::is_nonzero;
+use crate::field::is_within;
+use crate::field::kind_of;
+use crate::field::limit_of;
+use crate::field::measurement_of;
+use crate::field::number_of;
+use crate::field::plan_of;
+use plan::Plan;
+
+// "2, kind not 1 to 3"
+fn bad_kind(r: &[u8]) -> bool
+    ensures { λ b. ⌜ b ≡ badKind (now (r .entry)) ⌝ }
+{
+    !is_within(1, 3, kind_of(r))
+}
+
+// "3, first record not kind 1, kind 1 after another kind, or anything after kind 3"
+fn misplaced(s: Sheet, r: &[u8]) -> bool
+    ensures { λ b. ⌜ b ≡ misplacedBy s (now (r .entry)) ⌝ }
+{
+    let kind = kind_of(r);
+    ((s.kind == 0) & (kind != 1)) | ((kind == 1) & (1 < s.kind)) | (s.kind == 3)
+}
+
+// "4, pollutant number not 1 to 4 or not above the one before"
+fn bad_number(s: Sheet, r: &[u8]) -> bool
+    ensures { λ b. ⌜ b ≡ badNumberBy s (now (r .entry)) ⌝ }
+{
+    let number = number_of(r);
+    !is_within(1, 4, number) | (number <= s.number)
+}
+
+// "5, plan not 1 to 4 or unlike the first"
+fn bad_plan(s: Sheet, r: &[u8]) -> bool
+    ensures { λ b. ⌜ b ≡ badPlanBy s (now (r .entry)) ⌝ }
+{
+    let plan = plan_of(r);
+    !is_within(1, 4, plan) | ((s.kind != 0) & (plan != s.plan))
+}
+
+// "6, limit out of range"
+fn bad_limit(r: &[u8]) -> bool
+    ensures { λ b. ⌜ b ≡ badLimit (now (r .entry)) ⌝ }
+{
+    !is_within(1, 9_999_999, limit_of(r))
+}
+
+// "7, deviation": "1 to 4,000,000 in plan 1, zero otherwise"
+fn bad_deviation(r: &[u8]) -> bool
+    ensures { λ b. ⌜ b ≡ badDeviation (now (r .entry)) ⌝ }
+{
+    let deviation = deviation_of(r);
+    if plan_of(r) == 1 {
+        !is_within(1, 4_000_000, deviation)
+    } else {
+        deviation != 0
+    }
+}
+
+// 8, of one pollutant, whose limit is 0 where it is not declared.
+fn bad_value(limit: u32, x: u32) -> bool
+    ensures { λ b. ⌜ b ≡ badValueBy limit x ⌝ }
+{
+    if limit == 0 {
+        x != 0
+    } else {
+        !is_within(1, 9_999_999, x)
+    }
+}
+
+// "8, measurement, also one not zero of an undeclared pollutant"
+fn bad_measurement(limits: Quantities, r: &[u8]) -> bool
+    ensures { λ b. ⌜ b ≡ badMeasurementBy limits (now (r .entry)) ⌝ }
+{
+    bad_value(limits.co, measurement_of(r, 1))
+        | bad_value(limits.hc, measurement_of(r, 2))
+        | bad_value(limits.nox, measurement_of(r, 3))
+        | bad_value(limits.pm, measurement_of(r, 4))
+}
+
+// "2x > 3L", of a declared pollutant.
+fn exceeds(limit: u32, x: u32) -> bool
+    ensures { λ b. ⌜ b ≡ exceeds limit x ⌝ }
+{
+    (limit != 0) & (3 * (limit as u64) < 2 * (x as u64))
+}
+
+// "A gross emitter is a vehicle with 2x > 3L for some pollutant"
+pub fn is_gross(limits: Quantities, r: &[u8]) -> bool
+    ensures { λ b. ⌜ b ≡ grossBy limits (now (r .entry)) ⌝ }
+{
+    exceeds(limits.co, measurement_of(r, 1))
+        | exceeds(limits.hc, measurement_of(r, 2))
+        | exceeds(limits.nox, measurement_of(r, 3))
+        | exceeds(limits.pm, measurement_of(r, 4))
+}
+
+// "9, cause"
+fn bad_cause(s: Sheet, r: &[u8]) -> bool
+    ensures { λ b. ⌜ b ≡ badCauseBy s (now (r .entry)) ⌝ }
+{
+    let cause = cause_of(r);
+    let limits = s.limits;
+    if (s.plan == 4) & is_gross(limits, r) {
+        !is_within(1, 65_534, cause)
+    } else {
+        cause != 0
+    }
+}
+
+// "10, more engines than the last row"
+fn too_many(s: Sheet) -> bool
+    ensures { λ b. ⌜ b ≡ tooManyBy s ⌝ }
+{
+    Plan::of(s.plan).last_row() <= s.engines
+}
+
+// "12, another byte that must be zero"
+fn bad_unused(r: &[u8]) -> bool
+    ensures { λ b. ⌜ b ≡ unused pollutants (now (r .entry)) ⌝ }
+{
+    let kind = kind_of(r);
+    ((kind == 1) & (is_nonzero(r, 3, 4) | is_nonzero(r, 12, 20)))
+        | ((kind == 2) & is_nonzero(r, 1, 2))
+        | ((kind == 3) & is_nonzero(r, 1, 20))
+}
+
+fn pollutant_fault(s: Sheet, r: &[u8]) -> u8
+    ensures { λ n. ⌜ n ≡ pollutantFault s (now (r .entry)) ⌝ }
+{
+    if bad_number(s, r) {
+        return 4;
+    }
+    if bad_plan(s, r) {
+        return 5;
+    }
+    if bad_limit(r) {
+        return 6;
+    }
+    if bad_deviation(r) {
+        return 7;
+    }
+    if bad_unused(r) {
+        return 12;
+    }
+    0
+}
+
+fn engine_fault(s: Sheet, r: &[u8]) -> u8
+    ensures { λ n. ⌜ n ≡ engineFault s (now (r .entry)) ⌝ }
+{
+    let limits = s.limits;
+    if bad_measurement(limits, r) {
+        return 8;
+    }
+    if bad_cause(s, r) {
+        return 9;
+    }
+    if too_many(s) {
+        return 10;
+    }
+    if bad_unused(r) {
+        return 12;
+    }
+    0
+}
+
+fn stop_fault(s: Sheet, r: &[u8]) -> u8
+    ensures { λ n. ⌜ n ≡ stopFault s (now (r .entry)) ⌝ }
+{
+    if s.plan == 4 {
+        return 11;
+    }
+    if bad_unused(r) {
+        return 12;
+    }
+    0
+}
+
+pub fn fault_of(s: Sheet, r: &[u8]) -> u8
+    ensures { λ n. ⌜ n ≡ faultBy s (now (r .entry)) ⌝ }
+{
+    if bad_kind(r) {
+        return 2;
+    }
+    if misplaced(s, r) {
+        return 3;
+    }
+    let kind = kind_of(r);
+    if kind == 1 {
+        pollutant_fault(s, r)
+    } else if kind == 2 {
+        engine_fault(s, r)
+    } else {
+        stop_fault(s, r)
+    }
+}

@@ -1,0 +1,4 @@
+pub mod Laws
+pub mod Bracket
+pub mod Rising
+pub mod Bounds

@@ -1,0 +1,5 @@
+pub mod KnownTests
+pub mod RootTests
+pub mod UnknownTable
+pub mod Sums
+pub mod Rows

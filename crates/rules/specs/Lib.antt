@@ -1,0 +1,12 @@
+-- Document 01 (papers/01-scope.md), a file for each of its sections. The refusals stand before the operations, which use them.
+--
+-- Two numbers are parameters throughout, each put in at one place:
+-- w, the pollutants that the format has room for (`pollutants` in Sheet), and q, the squarings of the logarithm (`squarings` in Logarithm).
+pub mod Tools
+pub mod Logarithm
+pub mod Sheet
+pub mod Plans
+pub mod Series
+pub mod Refusals
+pub mod Operations
+pub mod Demands

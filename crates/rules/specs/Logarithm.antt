@@ -1,0 +1,57 @@
+-- Document 01, "The logarithm".
+use Prim.Native.Nat.{ℕ, zero, suc, _+_, _-_, _*_, _/_, _^_}
+use mathlib.Core.Bool.{cond}
+use mathlib.Core.List.{List, map}
+use lib.Dec.{leb}
+use lib.ListN.{length}
+use lib.IntN.{ℤ, pos, _-ℤ_, _*ℤ_}
+use Rattle.rules.specs.Tools.{within, total, square}
+
+-- "Sixteen times": every definition below is over the number q of squarings, and this is where sixteen is put in
+abbrev pub squarings : ℕ
+squarings = 16
+
+-- "m from 1 to 9,999,999", the range of limits and measurements too
+abbrev pub greatest : ℕ
+greatest = 9999999
+
+-- the number of binary digits of m, of which there are at most k
+unfoldable pub digits : (k m : ℕ) → ℕ
+digits zero m = 0
+digits (suc k) m = cond (leb 1 m) (1 + digits k (m / 2)) 0
+
+-- "e is the number of binary digits of m less one": m is below 2^32
+abbrev pub exponent : ℕ → ℕ
+exponent m = digits 32 m - 1
+
+-- "Q = M × M; if Q ≥ 2^63 the next bit is 1 and M becomes Q / 2^32, else the bit is 0 and M becomes Q / 2^31, rounded down"
+abbrev pub bit : ℕ → ℕ
+bit M = cond (leb (2 ^ 63) (M * M)) 1 0
+
+abbrev pub next : ℕ → ℕ
+next M = cond (leb (2 ^ 63) (M * M)) (M * M / 2 ^ 32) (M * M / 2 ^ 31)
+
+-- the bits of q squarings from M, "first bit highest", after the bits found before
+unfoldable pub bits : (q found M : ℕ) → ℕ
+bits zero found M = found
+bits (suc q) found M = bits q (found * 2 + bit M) (next M)
+
+-- "M = m × 2^(31−e)", "e × 65536 + the sixteen bits"
+unfoldable pub logarithm : (q m : ℕ) → ℕ
+logarithm q m = exponent m * 2 ^ q + bits q 0 (m * 2 ^ (31 - exponent m))
+
+-- "For m from 1 to 9,999,999", "Any other m gets 0"
+unfoldable pub g : (q m : ℕ) → ℕ
+g q m = cond (within 1 greatest m) (logarithm q m) 0
+
+-- "For a limit L, engine j has d_j = g(x_j) − g(L)"
+abbrev pub d : (q L x : ℕ) → ℤ
+d q L x = pos (g q x) -ℤ pos (g q L)
+
+-- "D is the sum of the d_j over n engines"
+abbrev pub D : (q L : ℕ) → List ℕ → ℤ
+D q L xs = total (map (d q L) xs)
+
+-- "W = n × (sum of d_j squared) − D squared"
+abbrev pub W : (q L : ℕ) → List ℕ → ℤ
+W q L xs = pos (length xs) *ℤ total (map (λ x. square (d q L x)) xs) -ℤ square (D q L xs)

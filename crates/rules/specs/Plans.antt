@@ -1,0 +1,129 @@
+-- Document 01, "Plans": last rows, decision numbers, and what a row says of one pollutant.
+use Prim.Native.Nat.{ℕ, _+_, _-_, _/_, _^_}
+use mathlib.Core.Bool.{Bool, not, _&&_, _||_, cond}
+use mathlib.Core.List.{List, [], _∷_}
+use lib.Dec.{leb, ltb, eqb}
+use lib.ListN.{length, getD}
+use lib.IntN.{ℤ, pos, negℤ, _+ℤ_, _-ℤ_, _*ℤ_}
+use lib.Signed.{ltZ, leZ}
+use Rattle.rules.specs.Tools.{those, square}
+use Rattle.rules.specs.Logarithm.{D, W}
+
+pub data Plan : Type 0 where
+  knownDeviation unknownDeviation attributes inService : Plan
+
+unfoldable pub planOf : ℕ → Plan
+planOf n = cond (eqb n 1) knownDeviation (cond (eqb n 2) unknownDeviation (cond (eqb n 3) attributes inService))
+
+-- "The last row belongs to the plan: 32, 32, 19 and 15 engines."
+abbrev pub lastRow : Plan → ℕ
+lastRow knownDeviation = 32
+lastRow unknownDeviation = 32
+lastRow attributes = 19
+lastRow inService = 15
+
+-- "A row gives pass, fail or open"
+pub data Row : Type 0 where
+  pass fail undecided : Row
+
+-- "pass is tested first. In the last row, what doesn't pass fails."
+unfoldable pub decide : (passes last fails : Bool) → Row
+decide passes last fails = cond passes pass (cond (last || fails) fail undecided)
+
+-- ---- 1, known deviation (001, App. 1)
+
+-- "in thousandths: A = 3327 − 66(n−3)", "A and B at 32 are −2112"
+abbrev pub knownA : (n : ℕ) → ℤ
+knownA n = cond (eqb n 32) (negℤ (pos 2112)) (pos 3327 -ℤ pos 66 *ℤ (pos n -ℤ pos 3))
+
+-- "B = −4724 − 66(n−3), and 1 more from n = 10"
+abbrev pub knownB : (n : ℕ) → ℤ
+knownB n = cond (eqb n 32) (negℤ (pos 2112)) (negℤ (pos 4724) -ℤ pos 66 *ℤ (pos n -ℤ pos 3) +ℤ cond (leb 10 n) (pos 1) (pos 0))
+
+-- "T = −D. Pass if T × 693,147,181 > A × t × 65,536"
+unfoldable pub knownPasses : (q n : ℕ) (D : ℤ) (t : ℕ) → Bool
+knownPasses q n D t = ltZ (knownA n *ℤ pos t *ℤ pos (2 ^ q)) (negℤ D *ℤ pos 693147181)
+
+-- "fail if less than the same with B"
+unfoldable pub knownFails : (q n : ℕ) (D : ℤ) (t : ℕ) → Bool
+knownFails q n D t = ltZ (negℤ D *ℤ pos 693147181) (knownB n *ℤ pos t *ℤ pos (2 ^ q))
+
+-- ---- 2, unknown deviation (001, App. 2)
+
+-- "For A < 0, P ≤ A√W means P ≤ 0 and P² ≥ A²W; for A ≥ 0, P ≤ 0 or P² ≤ A²W."
+unfoldable pub atMostRoot : (P A W : ℤ) → Bool
+atMostRoot P A W =
+    cond (ltZ A (pos 0))
+    (leZ P (pos 0) && leZ (square A *ℤ W) (square P))
+    (leZ P (pos 0) || leZ (square P) (square A *ℤ W))
+
+-- "For B > 0, P ≥ B√W means P ≥ 0 and P² ≥ B²W."
+unfoldable pub atLeastRoot : (P B W : ℤ) → Bool
+atLeastRoot P B W = leZ (pos 0) P && leZ (square B *ℤ W) (square P)
+
+-- A and B of one row, −a/b as the document prints them
+pub record Numbers : Type 0 where
+  pub A : ℤ
+  pub B : ℤ
+
+abbrev pub −_/_ : ℕ → ℕ → Numbers
+− a / b = record { A = negℤ (pos a); B = pos b }
+
+infix 90 −_/_
+-- "Hundred-thousandths, A/B from n = 3", to 31
+abbrev pub printed : List Numbers
+printed =
+    − 80381 / 1664743 ∷ − 76339 / 768627 ∷ − 72982 / 467136 ∷ − 69962 / 325573 ∷ − 67129 / 245431 ∷
+    − 64406 / 194369 ∷ − 61750 / 159105 ∷ − 59135 / 133295 ∷ − 56542 / 113566 ∷ − 53960 / 97970 ∷
+    − 51379 / 85307 ∷ − 48791 / 74801 ∷ − 46191 / 65928 ∷ − 43573 / 58321 ∷ − 40933 / 51718 ∷
+    − 38266 / 45922 ∷ − 35570 / 40788 ∷ − 32840 / 36203 ∷ − 30072 / 32078 ∷ − 27263 / 28343 ∷
+    − 24410 / 24943 ∷ − 21509 / 21831 ∷ − 18557 / 18970 ∷ − 15550 / 16328 ∷ − 12483 / 13880 ∷
+    − 9354 / 11603 ∷ − 6159 / 9480 ∷ − 2892 / 7493 ∷ − 449 / 5629 ∷ []
+
+-- "A at 32 is −3876"; there is no B at 32, and none is asked for
+unfoldable pub unknownNumbers : (n : ℕ) → Numbers
+unknownNumbers n = getD printed (n - 3) (− 3876 / 0)
+
+-- "P = 100,000 × D. Pass if P ≤ A√W, fail if P ≥ B√W, roots never taken."
+unfoldable pub rootPasses : (A : ℤ) (D W : ℤ) → Bool
+rootPasses A D W = atMostRoot (pos 100000 *ℤ D) A W
+
+unfoldable pub rootFails : (B : ℤ) (D W : ℤ) → Bool
+rootFails B D W = atLeastRoot (pos 100000 *ℤ D) B W
+
+-- ---- 3, attributes (001, App. 3)
+
+-- "c = engines with x > L"
+abbrev pub countOver : (L : ℕ) → List ℕ → ℕ
+countOver L xs = length (those (λ x. ltb L x) xs)
+
+-- "Pass if c ≤ (n−4)/2 rounded down, never at n = 3", "At 19: pass up to 8"
+unfoldable pub attributesPasses : (n c : ℕ) → Bool
+attributesPasses n c = cond (eqb n 19) (leb c 8) (not (eqb n 3) && leb c ((n - 4) / 2))
+
+-- "fail if c ≥ n/2 rounded down + 2", "At 19: .. fail from 9"
+unfoldable pub attributesFails : (n c : ℕ) → Bool
+attributesFails n c = cond (eqb n 19) (leb 9 c) (leb (n / 2 + 2) c)
+
+-- ---- 4, in service (000)
+
+-- "Rows as plan 2 up to 14; at 15, A is 15474."
+unfoldable pub inServiceNumbers : (n : ℕ) → Numbers
+inServiceNumbers n = cond (eqb n 15) (record { A = pos 15474; B = pos 0 }) (unknownNumbers n)
+
+-- ---- the row n of a plan, for the limit L, the deviation t and the n measurements xs
+
+unfoldable pub rowPasses : Plan → (q n L t : ℕ) → List ℕ → Bool
+rowPasses knownDeviation q n L t xs = knownPasses q n (D q L xs) t
+rowPasses unknownDeviation q n L t xs = rootPasses (unknownNumbers n .A) (D q L xs) (W q L xs)
+rowPasses attributes q n L t xs = attributesPasses n (countOver L xs)
+rowPasses inService q n L t xs = rootPasses (inServiceNumbers n .A) (D q L xs) (W q L xs)
+
+unfoldable pub rowFails : Plan → (q n L t : ℕ) → List ℕ → Bool
+rowFails knownDeviation q n L t xs = knownFails q n (D q L xs) t
+rowFails unknownDeviation q n L t xs = rootFails (unknownNumbers n .B) (D q L xs) (W q L xs)
+rowFails attributes q n L t xs = attributesFails n (countOver L xs)
+rowFails inService q n L t xs = rootFails (inServiceNumbers n .B) (D q L xs) (W q L xs)
+
+unfoldable pub row : Plan → (q n L t : ℕ) → List ℕ → Row
+row plan q n L t xs = decide (rowPasses plan q n L t xs) (eqb n (lastRow plan)) (rowFails plan q n L t xs)

@@ -1,0 +1,158 @@
+-- Document 01, "The series": rows from 3, all declared pollutants together, and what judging answers.
+use Prim.Native.Nat.{ℕ, zero, suc, _-_}
+use mathlib.Core.Bool.{Bool, true, false, _&&_, _||_, cond}
+use mathlib.Core.List.{List, [], _∷_, map}
+use lib.Dec.{leb, ltb, eqb}
+use lib.ListN.{length, take, drop}
+use Rattle.rules.specs.Tools.{any, all, those}
+use Rattle.rules.specs.Sheet.{Record, Pollutant, numbers, measurement, cause, gross, engines, stopped, declared, planNumber}
+use Rattle.rules.specs.Plans.{Plan, knownDeviation, unknownDeviation, attributes, inService, planOf, Row, pass, fail, undecided, row}
+
+-- a pollutant's decision and its engine
+pub data Decision : Type 0 where
+  isOpen : Decision
+  passedAt failedAt : (engine : ℕ) → Decision
+
+-- a declared pollutant and its decision so far
+pub record Standing : Type 0 where
+  pub pollutant : Pollutant
+  pub decision : Decision
+
+-- a series: going on, or decided at an engine; a fail has its ground (1 a row, 2 equal cause)
+pub data Series : Type 0 where
+  ongoing : List Standing → Series
+  passed : (engine : ℕ) → List Standing → Series
+  failed : (engine ground : ℕ) → List Standing → Series
+  referred : (engine : ℕ) → List Standing → Series
+
+-- ---- plan 4, "Before a row's statistics, in order"
+
+pub data Before : Type 0 where
+  early equalCause referral leftOpen statistics : Before
+
+-- two equal ones among the numbers
+abbrev pub repeats : List ℕ → Bool
+repeats [] = false
+repeats (x ∷ xs) = any (eqb x) xs || repeats xs
+
+-- "two gross emitters of equal cause among the first n: the series fails. n = 15 and two or more gross emitters: referred to the
+-- authority. n < 15 and the newest vehicle (at n = 3, any of the three) a gross emitter: the row is open for every pollutant."
+unfoldable pub inServiceBefore : List Pollutant → (n : ℕ) → (first : List Record) → Before
+inServiceBefore ps n first =
+    cond (repeats (map cause (those (gross ps) first))) equalCause
+    (cond (eqb n 15 && leb 2 (length (those (gross ps) first))) referral
+    (cond (ltb n 15 && any (gross ps) (cond (eqb n 3) first (drop (n - 1) first))) leftOpen statistics))
+
+abbrev pub planBefore : Plan → List Pollutant → (n : ℕ) → (first : List Record) → Before
+planBefore knownDeviation ps n first = statistics
+planBefore unknownDeviation ps n first = statistics
+planBefore attributes ps n first = statistics
+planBefore inService ps n first = inServiceBefore ps n first
+
+-- "Rows are walked from 3."
+unfoldable pub beforeRow : Plan → List Pollutant → (n : ℕ) → (first : List Record) → Before
+beforeRow plan ps n first = cond (ltb n 3) early (planBefore plan ps n first)
+
+-- ---- a row's statistics
+
+abbrev pub decidedAt : (n : ℕ) → Row → Decision
+decidedAt n pass = passedAt n
+decidedAt n fail = failedAt n
+decidedAt n undecided = isOpen
+
+-- "A pollutant that has passed is not looked at again."
+abbrev pub lookedAt : (n : ℕ) → Row → Decision → Decision
+lookedAt n r isOpen = decidedAt n r
+lookedAt n r (passedAt m) = passedAt m
+lookedAt n r (failedAt m) = failedAt m
+
+-- row n on one pollutant, with the first n engines
+unfoldable pub look : Plan → (q n : ℕ) → (first : List Record) → Standing → Standing
+look plan q n first s =
+    let p = s .pollutant in
+    record {
+      pollutant = p;
+      decision = lookedAt n (row plan q n (p .limit) (p .deviation) (map (λ r. measurement r (p .number)) first)) (s .decision);
+    }
+
+abbrev pub hasFailed : Decision → Bool
+hasFailed isOpen = false
+hasFailed (passedAt m) = false
+hasFailed (failedAt m) = true
+
+abbrev pub hasPassed : Decision → Bool
+hasPassed isOpen = false
+hasPassed (passedAt m) = true
+hasPassed (failedAt m) = false
+
+-- "Any fail in a row: the series fails there, and every other pollutant deciding in that row keeps its decision. All passed: pass."
+abbrev pub settleBy : (anyFailed allPassed : Bool) → (n : ℕ) → List Standing → Series
+settleBy true allPassed n ss = failed n 1 ss
+settleBy false true n ss = passed n ss
+settleBy false false n ss = ongoing ss
+
+unfoldable pub settle : (n : ℕ) → List Standing → Series
+settle n ss = settleBy (any (λ s. hasFailed (s .decision)) ss) (all (λ s. hasPassed (s .decision)) ss) n ss
+
+-- ---- the walk
+
+-- row n of a series that is going on: "Equal cause, a stop and referral leave open pollutants open."
+abbrev pub rowBy : Before → Plan → (q n : ℕ) → (first : List Record) → List Standing → Series
+rowBy early plan q n first ss = ongoing ss
+rowBy equalCause plan q n first ss = failed n 2 ss
+rowBy referral plan q n first ss = referred n ss
+rowBy leftOpen plan q n first ss = ongoing ss
+rowBy statistics plan q n first ss = settle n (map (look plan q n first) ss)
+
+-- row n of any series: "Engines after the decision are checked and counted for nothing."
+abbrev pub walk : Plan → List Pollutant → (q n : ℕ) → (first : List Record) → Series → Series
+walk plan ps q n first (ongoing ss) = rowBy (beforeRow plan ps n first) plan q n first ss
+walk plan ps q n first (passed m ss) = passed m ss
+walk plan ps q n first (failed m ground ss) = failed m ground ss
+walk plan ps q n first (referred m ss) = referred m ss
+
+unfoldable pub unlooked : Pollutant → Standing
+unlooked p = record { pollutant = p; decision = isOpen }
+
+-- the series after the first n of the engines es
+unfoldable pub after : Plan → List Pollutant → (q : ℕ) → (es : List Record) → (n : ℕ) → Series
+after plan ps q es zero = ongoing (map unlooked ps)
+after plan ps q es (suc n) = walk plan ps q (suc n) (take (suc n) es) (after plan ps q es n)
+
+-- ---- what judging answers
+
+-- "decision (0 open or undeclared, 1 pass, 2 fail) and engine (0 where the decision is 0)"
+pub data Pair : Type 0 where
+  pair : (decision engine : ℕ) → Pair
+
+abbrev pub pairOf : Decision → Pair
+pairOf isOpen = pair 0 0
+pairOf (passedAt n) = pair 1 n
+pairOf (failedAt n) = pair 2 n
+
+-- the decision of the pollutant p, open where it is undeclared
+abbrev pub decisionOf : (p : ℕ) → List Standing → Decision
+decisionOf p [] = isOpen
+decisionOf p (s ∷ ss) = cond (eqb (s .pollutant .number) p) (s .decision) (decisionOf p ss)
+
+unfoldable pub pairs : (w : ℕ) → List Standing → List Pair
+pairs w ss = map (λ p. pairOf (decisionOf p ss)) (numbers w)
+
+-- a refusal's number and record; or "verdict (0 another, 1 pass, 2 fail, 3 referred), engine (for another, the engines so far), ground
+-- (0 none, 1 a row, 2 equal cause, 3 stopped, 4 referred)" and a pair for each pollutant, 1 first
+pub data Answer : Type 0 where
+  refusal : (number place : ℕ) → Answer
+  judgement : (verdict engine ground : ℕ) → List Pair → Answer
+
+-- "A stop on an undecided series fails it at the engines tested, also below 3. Otherwise: another."
+abbrev pub answer : (w : ℕ) → (stop : Bool) → (tested : ℕ) → Series → Answer
+answer w stop n (passed m ss) = judgement 1 m 1 (pairs w ss)
+answer w stop n (failed m ground ss) = judgement 2 m ground (pairs w ss)
+answer w stop n (referred m ss) = judgement 3 m 4 (pairs w ss)
+answer w true n (ongoing ss) = judgement 2 n 3 (pairs w ss)
+answer w false n (ongoing ss) = judgement 0 n 0 (pairs w ss)
+
+-- the answer for the records of a sheet that the check accepts
+unfoldable pub judgeRecords : (w q : ℕ) → List Record → Answer
+judgeRecords w q rs =
+    answer w (stopped rs) (length (engines rs)) (after (planOf (planNumber rs)) (declared rs) q (engines rs) (length (engines rs)))

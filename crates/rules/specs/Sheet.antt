@@ -1,0 +1,96 @@
+-- Document 01, "The sheet": records and fields. w is the number of pollutants that the format has room for.
+use Prim.Native.Nat.{ℕ, zero, suc, _+_, _*_, _/_}
+use mathlib.Core.Bool.{Bool}
+use mathlib.Core.List.{List, [], _∷_, _++_, map}
+use lib.Dec.{ltb, eqb}
+use lib.ListN.{length, getD, take, drop}
+use Rattle.rules.specs.Tools.{any, those, byte, two, four}
+
+-- "four u32 measurements"
+abbrev pub pollutants : ℕ
+pollutants = 4
+
+-- the bytes of a record
+abbrev pub Record : Type 0
+Record = List ℕ
+
+-- "Records of 20 bytes"
+abbrev pub size : (w : ℕ) → ℕ
+size w = 4 + 4 * w
+
+-- "at most 37": each pollutant once, 32 engines and a stop
+abbrev pub most : (w : ℕ) → ℕ
+most w = w + 33
+
+-- the first n records of the bytes b, each of s bytes
+unfoldable pub cut : (s n : ℕ) → List ℕ → List Record
+cut s zero b = []
+cut s (suc n) b = take s b ∷ cut s n (drop s b)
+
+-- "no header"
+unfoldable pub records : (w : ℕ) → List ℕ → List Record
+records w b = cut (size w) (length b / size w) b
+
+-- "Byte 0 is the kind": 1 pollutant, 2 engine or vehicle, 3 testing stopped by the manufacturer
+unfoldable pub kind : Record → ℕ
+kind r = byte r 0
+
+-- kind 1: "byte 1 pollutant number ..; byte 2 plan ..; bytes 4-7 limit L; bytes 8-11 deviation t"
+unfoldable pub number : Record → ℕ
+number r = byte r 1
+
+unfoldable pub plan : Record → ℕ
+plan r = byte r 2
+
+unfoldable pub limit : Record → ℕ
+limit r = four r 4
+
+unfoldable pub deviation : Record → ℕ
+deviation r = four r 8
+
+-- kind 2: "bytes 2-3 cause; bytes 4-19 four u32 measurements, pollutant 1 first"
+unfoldable pub cause : Record → ℕ
+cause r = two r 2
+
+unfoldable pub measurement : Record → (pollutant : ℕ) → ℕ
+measurement r p = four r (4 * p)
+
+-- the records of a kind, in their order
+unfoldable pub ofKind : ℕ → List Record → List Record
+ofKind k rs = those (λ r. eqb (kind r) k) rs
+
+-- "Its engines are its records of kind 2"
+abbrev pub engines : List Record → List Record
+engines rs = ofKind 2 rs
+
+-- whether testing was stopped
+abbrev pub stopped : List Record → Bool
+stopped rs = any (λ r. eqb (kind r) 3) rs
+
+-- the plan is the first record's
+unfoldable pub planNumber : List Record → ℕ
+planNumber rs = plan (getD rs 0 [])
+
+-- a pollutant as its record declares it
+pub record Pollutant : Type 0 where
+  pub number : ℕ
+  pub limit : ℕ
+  pub deviation : ℕ
+
+unfoldable pub pollutant : Record → Pollutant
+pollutant r = record { number = number r; limit = limit r; deviation = deviation r }
+
+unfoldable pub declared : List Record → List Pollutant
+declared rs = map pollutant (ofKind 1 rs)
+
+unfoldable pub declares : List Pollutant → (p : ℕ) → Bool
+declares ps p = any (λ c. eqb (c .number) p) ps
+
+-- "A gross emitter is a vehicle with 2x > 3L for some pollutant"
+unfoldable pub gross : List Pollutant → Record → Bool
+gross ps r = any (λ c. ltb (3 * c .limit) (2 * measurement r (c .number))) ps
+
+-- the pollutant numbers, 1 to w
+abbrev pub numbers : (w : ℕ) → List ℕ
+numbers zero = []
+numbers (suc w) = numbers w ++ (suc w ∷ [])

@@ -1,0 +1,126 @@
+-- A pollutant's standing as the program keeps it: the second form of document 01's "row n on one pollutant", by running sums.
+-- proofs/Follows shows it equal to the definition.
+use Prim.Native.Nat.{ℕ, _+_, _-_, _*_, _^_, _≤_}
+use mathlib.Core.Bool.{Bool, true, false, not, _&&_, cond}
+use lib.Dec.{ltb, eqb}
+use lib.IntN.{ℤ, pos, _-ℤ_}
+use Rattle.rules.specs.Logarithm.{squarings, g}
+use Rattle.rules.specs.Plans as rules
+use Rattle.rules.specs.Series as series
+use Rattle.plan.specs.declared.Plan.{Plan}
+use Rattle.plan.specs.declared.Plan.the-variants.{KnownDeviation, UnknownDeviation, Attributes, InService}
+use Rattle.plan.specs.Plan.{planIs}
+use Rattle.standings.specs.declared.Decision.{Decision}
+use Rattle.standings.specs.declared.Decision.the-variants.{Open, Passed, Failed}
+use Rattle.standings.specs.declared.Standing.{Standing}
+
+-- the program's decision as document 01's, whose numbers `pairOf` gives
+abbrev pub decisionIs : Decision → series.Decision
+decisionIs Open = series.isOpen
+decisionIs (Passed n) = series.passedAt n
+decisionIs (Failed n) = series.failedAt n
+
+abbrev pub isUndecided : series.Decision → Bool
+isUndecided series.isOpen = true
+isUndecided (series.passedAt n) = false
+isUndecided (series.failedAt n) = false
+
+-- a row looks at a declared pollutant that is open
+unfoldable pub looksAt : Standing → Bool
+looksAt s = not (eqb (s .limit) 0) && isUndecided (decisionIs (s .decision))
+
+-- plan 3 counts the engines over the limit, and the others take logarithms
+abbrev pub takesLogarithms : Plan → Bool
+takesLogarithms KnownDeviation = true
+takesLogarithms UnknownDeviation = true
+takesLogarithms Attributes = false
+takesLogarithms InService = true
+
+-- what the measurement x adds to the sum, under the limit L
+unfoldable pub score : Plan → (L x : ℕ) → ℕ
+score plan L x = cond (takesLogarithms plan) (g squarings x) (cond (ltb L x) 1 0)
+
+-- what the limit L takes away for each engine
+unfoldable pub levelOf : Plan → (L : ℕ) → ℕ
+levelOf plan L = cond (takesLogarithms plan) (g squarings L) 0
+
+abbrev pub started : Plan → (L t : ℕ) → Standing
+started plan L t =
+    record { limit = L; level = levelOf plan L; deviation = t; sum = 0; squares = 0; decision = Open }
+
+-- with the measurement x
+unfoldable pub added : Plan → Standing → (x : ℕ) → Standing
+added plan s x =
+    cond (looksAt s)
+    (record {
+      limit = s .limit;
+      level = s .level;
+      deviation = s .deviation;
+      sum = s .sum + score plan (s .limit) x;
+      squares = s .squares + score plan (s .limit) x * score plan (s .limit) x;
+      decision = s .decision;
+    })
+    s
+
+-- D and W of n engines, from the sums
+abbrev pub sumD : (n : ℕ) → Standing → ℤ
+sumD n s = pos (s .sum) -ℤ pos (n * s .level)
+
+abbrev pub spreadW : (n : ℕ) → Standing → ℤ
+spreadW n s = pos (n * s .squares - s .sum * s .sum)
+
+-- what row n of the plan says
+unfoldable pub rowFrom : Plan → (n : ℕ) → Standing → rules.Row
+rowFrom KnownDeviation n s =
+    rules.decide (rules.knownPasses squarings n (sumD n s) (s .deviation)) (eqb n 32) (rules.knownFails squarings n (sumD n s) (s .deviation))
+rowFrom UnknownDeviation n s =
+    rules.decide (rules.rootPasses (rules.unknownNumbers n .A) (sumD n s) (spreadW n s)) (eqb n 32)
+    (rules.rootFails (rules.unknownNumbers n .B) (sumD n s) (spreadW n s))
+rowFrom Attributes n s = rules.decide (rules.attributesPasses n (s .sum)) (eqb n 19) (rules.attributesFails n (s .sum))
+rowFrom InService n s =
+    rules.decide (rules.rootPasses (rules.inServiceNumbers n .A) (sumD n s) (spreadW n s)) (eqb n 15)
+    (rules.rootFails (rules.inServiceNumbers n .B) (sumD n s) (spreadW n s))
+
+-- the program's decision of a row
+abbrev pub decisionBy : (n : ℕ) → rules.Row → Decision
+decisionBy n rules.pass = Passed n
+decisionBy n rules.fail = Failed n
+decisionBy n rules.undecided = Open
+
+-- after row n
+unfoldable pub looked : Plan → (n : ℕ) → Standing → Standing
+looked plan n s =
+    cond (looksAt s)
+    (record {
+      limit = s .limit;
+      level = s .level;
+      deviation = s .deviation;
+      sum = s .sum;
+      squares = s .squares;
+      decision = decisionBy n (rowFrom plan n s);
+    })
+    s
+
+-- declared, and not passed
+unfoldable pub waitsFor : Standing → Bool
+waitsFor s = not (eqb (s .limit) 0) && not (series.hasPassed (decisionIs (s .decision)))
+
+-- ---- ranges
+
+-- a logarithm is below 24 × 2^q, also with 20 squarings
+abbrev pub highest : ℕ
+highest = 24 * 2 ^ 20
+
+-- what the numbers keep to after n engines
+pub record Bounded (n : ℕ) (s : Standing) : Type 0 where
+  pub sum-most : s .sum ≤ n * highest
+  pub squares-most : s .squares ≤ n * (highest * highest)
+  pub spread : s .sum * s .sum ≤ n * s .squares
+  pub log-most : s .level ≤ highest
+  pub deviation-most : s .deviation ≤ 4000000
+
+-- and where row n of the plan looks at the pollutant
+pub record InRows (plan : Plan) (n : ℕ) (s : Standing) : Type 0 where
+  pub bounded : Bounded n s
+  pub least : 3 ≤ n
+  pub most : n ≤ rules.lastRow (planIs plan)
