@@ -10,7 +10,7 @@ use lib.ListN.{length, length-append}
 use borrow.Author.Tests.{eqb-true, eqb-false, ne-eqb, eq-eqb, not-false, leb-true, leb-false, lt-leb, lt-ltb}
 use Rattle.rules.specs.Tools.{any, within}
 use Rattle.rules.specs.Logarithm.{greatest}
-use Rattle.rules.specs.Sheet.{Record, Pollutant, pollutants, kind, number, plan, limit, ofKind, engines, stopped, planNumber, pollutant, declared}
+use Rattle.rules.specs.Sheet.{Record, Pollutant, pollutants, kind, number, plan, limit, cause, ofKind, engines, stopped, planNumber, pollutant, declared}
 use Rattle.rules.specs.Plans.{planOf, lastRow}
 use Rattle.rules.specs.Refusals.{misplaced, badNumber, badPlan, badLimit, badCause, tooMany, Fault, fault, first, faults, faultOf}
 use Rattle.arithmetic.proofs.Booleans.{never, or-false, or-same, or-true, and-true, and-right, and-never}
@@ -18,7 +18,8 @@ use Rattle.arithmetic.proofs.Lists.{any-snoc, map-append}
 use Rattle.accepted.proofs.Faultless.{Faultless, faultless, kind-range, isOther, ofKind-append, no-engines}
 use Rattle.faults.specs.declared.Sheet.{Sheet}
 use Rattle.faults.specs.State.{nothing, withPollutant, withEngine, withStop, sheetWith}
-use Rattle.faults.specs.Faults.{badKind, misplacedBy, badNumberBy, badPlanBy, badCauseBy, tooManyBy, pollutantFault, engineFault, stopFault, faultBy}
+use Rattle.faults.specs.Faults.{badKind, misplacedBy, badNumberBy, badPlanBy, grossBy, badCauseInService, badCauseBy, tooManyBy, pollutantFault, engineFault, stopFault, faultBy}
+use Rattle.faults.proofs.Unused.{pollutant-unused, engine-unused, stop-unused}
 use Rattle.faults.proofs.Declared.{Declared, none, measurement-agrees, one-more}
 
 abbrev pub isEmpty : List Record → Bool
@@ -65,14 +66,20 @@ unfolding badPlanBy badPlan
 plan-agrees [] s a r = rw (a .emptyIs) (or-same (not (within 1 4 (plan r))))
 plan-agrees (b ∷ before) s a r = rw (a .emptyIs, a .planIs) refl
 
+nested : (a b x y : Bool) → cond a (cond b x y) y ≡ cond (a && b) x y
+nested true b x y = refl
+nested false b x y = refl
+
 module _ {before : List Record} {s : Sheet} (a : Agrees before s) (r : Record) where
   number-agrees : badNumberBy s r ≡ badNumber pollutants before r
   unfolding badNumberBy badNumber
   number-agrees = rw (a .declaredIs .newestIs) refl
 
   cause-agrees : badCauseBy s r ≡ badCause (planNumber before) (declared before) r
-  unfolding badCauseBy badCause
-  cause-agrees = rw (a .planIs, a .declaredIs .grossIs r) refl
+  unfolding badCauseBy badCauseInService badCause
+  cause-agrees =
+      rw (a .planIs, a .declaredIs .grossIs r)
+      (nested (eqb (planNumber before) 4) (grossBy (s .limits) r) (not (within 1 65534 (cause r))) (not (eqb (cause r) 0)))
 
   many-agrees : tooManyBy s ≡ tooMany before
   unfolding tooManyBy tooMany
@@ -98,7 +105,8 @@ unfolding faultBy pollutantFault engineFault stopFault badKind faultOf faults
 fault-agrees {before} {s} a r =
     rw (misplaced-agrees before s a r, number-agrees a r, plan-agrees before s a r, measurement-agrees (a .declaredIs) r, cause-agrees a r, many-agrees a r, a .planIs)
     (⊎-elim (λ e. rw e refl)
-    (⊎-elim (λ e. rw e (simp first-fault)) (⊎-elim (λ e. rw e (simp first-fault)) (λ e. rw e (simp first-fault))))
+    (⊎-elim (λ e. rw (pollutant-unused r e, e) (simp first-fault))
+    (⊎-elim (λ e. rw (engine-unused r e, e) (simp first-fault)) (λ e. rw (stop-unused r e, e) (simp first-fault))))
     (three (kind r)))
 
 -- ---- one record more, which has no fault

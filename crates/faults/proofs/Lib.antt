@@ -1,3 +1,3 @@
-pub mod Nonzero
+pub mod Unused
 pub mod Declared
 pub mod Agreement

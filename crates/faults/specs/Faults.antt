@@ -1,13 +1,13 @@
 -- The refusal of a record by what the program keeps of the records before it; proofs/Agreement: it is document 01's.
--- Refusals 6, 7 and 12 do not look back: they are document 01's own definitions.
+-- Refusals 6 and 7 do not look back: they are document 01's own definitions.
 use Prim.Native.Nat.{ℕ, _*_}
 use mathlib.Core.Bool.{Bool, not, _&&_, _||_, cond}
 use lib.Dec.{leb, ltb, eqb}
-use Rattle.rules.specs.Tools.{within}
+use Rattle.rules.specs.Tools.{within, byte, two, four}
 use Rattle.rules.specs.Logarithm.{greatest}
 use Rattle.rules.specs.Sheet.{Record, pollutants, kind, number, plan, cause, measurement}
 use Rattle.rules.specs.Plans.{planOf, lastRow}
-use Rattle.rules.specs.Refusals.{badLimit, badDeviation, unused}
+use Rattle.rules.specs.Refusals.{badLimit, badDeviation}
 use Rattle.faults.specs.declared.Quantities.{Quantities}
 use Rattle.faults.specs.declared.Sheet.{Sheet}
 
@@ -49,12 +49,31 @@ grossBy limits r =
     || exceeds (limits .nox) (measurement r 3)
     || exceeds (limits .pm) (measurement r 4)
 
+unfoldable pub badCauseInService : (limits : Quantities) → Record → Bool
+badCauseInService limits r = cond (grossBy limits r) (not (within 1 65534 (cause r))) (not (eqb (cause r) 0))
+
 unfoldable pub badCauseBy : Sheet → Record → Bool
-badCauseBy s r = cond (eqb (s .plan) 4 && grossBy (s .limits) r) (not (within 1 65534 (cause r))) (not (eqb (cause r) 0))
+badCauseBy s r = cond (eqb (s .plan) 4) (badCauseInService (s .limits) r) (not (eqb (cause r) 0))
 
 -- 10
 unfoldable pub tooManyBy : Sheet → Bool
 tooManyBy s = leb (lastRow (planOf (s .plan))) (s .engines)
+
+-- 12, of each kind: the bytes that must be zero, as numbers
+unfoldable pub pollutantUnused : Record → Bool
+pollutantUnused r = not (eqb (byte r 3) 0) || not (eqb (four r 12) 0) || not (eqb (four r 16) 0)
+
+unfoldable pub engineUnused : Record → Bool
+engineUnused r = not (eqb (byte r 1) 0)
+
+unfoldable pub stopUnused : Record → Bool
+stopUnused r =
+    not (eqb (byte r 1) 0)
+    || not (eqb (two r 2) 0)
+    || not (eqb (four r 4) 0)
+    || not (eqb (four r 8) 0)
+    || not (eqb (four r 12) 0)
+    || not (eqb (four r 16) 0)
 
 -- the lowest of those that a record of each kind can have
 unfoldable pub pollutantFault : Sheet → Record → ℕ
@@ -63,17 +82,17 @@ pollutantFault s r =
     (cond (badPlanBy s r) 5
     (cond (badLimit r) 6
     (cond (badDeviation r) 7
-    (cond (unused pollutants r) 12 0))))
+    (cond (pollutantUnused r) 12 0))))
 
 unfoldable pub engineFault : Sheet → Record → ℕ
 engineFault s r =
     cond (badMeasurementBy (s .limits) r) 8
     (cond (badCauseBy s r) 9
     (cond (tooManyBy s) 10
-    (cond (unused pollutants r) 12 0)))
+    (cond (engineUnused r) 12 0)))
 
 unfoldable pub stopFault : Sheet → Record → ℕ
-stopFault s r = cond (eqb (s .plan) 4) 11 (cond (unused pollutants r) 12 0)
+stopFault s r = cond (eqb (s .plan) 4) 11 (cond (stopUnused r) 12 0)
 
 unfoldable pub faultBy : Sheet → Record → ℕ
 faultBy s r =

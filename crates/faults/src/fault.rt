@@ -1,19 +1,20 @@
 // The lowest refusal number of a record, given what the records before it say. 0: the record has no fault.
 ghost use mathlib.Core.Path.{_≡_};
-ghost use Rattle.rules.specs.Sheet.{pollutants};
-ghost use Rattle.rules.specs.Refusals.{badLimit, badDeviation, unused};
-ghost use Rattle.faults.specs.Faults.{badKind, misplacedBy, badNumberBy, badPlanBy, badValueBy, badMeasurementBy, exceeds, grossBy, badCauseBy, tooManyBy, pollutantFault, engineFault, stopFault, faultBy};
+ghost use Rattle.rules.specs.Refusals.{badLimit, badDeviation};
+ghost use Rattle.faults.specs.Faults.{badKind, misplacedBy, badNumberBy, badPlanBy, badValueBy, badMeasurementBy, exceeds, grossBy, badCauseInService, badCauseBy, tooManyBy, pollutantUnused, engineUnused, stopUnused, pollutantFault, engineFault, stopFault, faultBy};
 use crate::Quantities;
 use crate::Sheet;
+use crate::field::byte_at;
 use crate::field::cause_of;
 use crate::field::deviation_of;
-use crate::field::is_nonzero;
 use crate::field::is_within;
 use crate::field::kind_of;
 use crate::field::limit_of;
 use crate::field::measurement_of;
 use crate::field::number_of;
 use crate::field::plan_of;
+use crate::field::u16_at;
+use crate::field::u32_at;
 use plan::Plan;
 
 // "2, kind not 1 to 3"
@@ -104,16 +105,27 @@ pub fn is_gross(limits: Quantities, r: &[u8]) -> bool
         | exceeds(limits.pm, measurement_of(r, 4))
 }
 
-// "9, cause"
-fn bad_cause(s: Sheet, r: &[u8]) -> bool
-    ensures { λ b. ⌜ b ≡ badCauseBy s (now (r .entry)) ⌝ }
+// "In plan 4 its cause is 1 to 65,534, any other vehicle's is 0"
+fn bad_cause_in_service(limits: Quantities, r: &[u8]) -> bool
+    ensures { λ b. ⌜ b ≡ badCauseInService limits (now (r .entry)) ⌝ }
 {
     let cause = cause_of(r);
-    let limits = s.limits;
-    if (s.plan == 4) & is_gross(limits, r) {
+    if is_gross(limits, r) {
         !is_within(1, 65_534, cause)
     } else {
         cause != 0
+    }
+}
+
+// "9, cause": "in plans 1 to 3 cause is 0"
+fn bad_cause(s: Sheet, r: &[u8]) -> bool
+    ensures { λ b. ⌜ b ≡ badCauseBy s (now (r .entry)) ⌝ }
+{
+    let limits = s.limits;
+    if s.plan == 4 {
+        bad_cause_in_service(limits, r)
+    } else {
+        cause_of(r) != 0
     }
 }
 
@@ -124,14 +136,30 @@ fn too_many(s: Sheet) -> bool
     Plan::of(s.plan).last_row() <= s.engines
 }
 
-// "12, another byte that must be zero"
-fn bad_unused(r: &[u8]) -> bool
-    ensures { λ b. ⌜ b ≡ unused pollutants (now (r .entry)) ⌝ }
+// "12, another byte that must be zero", of a pollutant: "Byte 3 and bytes 12-19 are zero."
+fn pollutant_unused(r: &[u8]) -> bool
+    ensures { λ b. ⌜ b ≡ pollutantUnused (now (r .entry)) ⌝ }
 {
-    let kind = kind_of(r);
-    ((kind == 1) & (is_nonzero(r, 3, 4) | is_nonzero(r, 12, 20)))
-        | ((kind == 2) & is_nonzero(r, 1, 2))
-        | ((kind == 3) & is_nonzero(r, 1, 20))
+    (byte_at(r, 3) != 0) | (u32_at(r, 12) != 0) | (u32_at(r, 16) != 0)
+}
+
+// 12, of an engine: "byte 1 zero"
+fn engine_unused(r: &[u8]) -> bool
+    ensures { λ b. ⌜ b ≡ engineUnused (now (r .entry)) ⌝ }
+{
+    byte_at(r, 1) != 0
+}
+
+// 12, of a stop: "bytes 1-19 zero"
+fn stop_unused(r: &[u8]) -> bool
+    ensures { λ b. ⌜ b ≡ stopUnused (now (r .entry)) ⌝ }
+{
+    (byte_at(r, 1) != 0)
+        | (u16_at(r, 2) != 0)
+        | (u32_at(r, 4) != 0)
+        | (u32_at(r, 8) != 0)
+        | (u32_at(r, 12) != 0)
+        | (u32_at(r, 16) != 0)
 }
 
 fn pollutant_fault(s: Sheet, r: &[u8]) -> u8
@@ -149,7 +177,7 @@ fn pollutant_fault(s: Sheet, r: &[u8]) -> u8
     if bad_deviation(r) {
         return 7;
     }
-    if bad_unused(r) {
+    if pollutant_unused(r) {
         return 12;
     }
     0
@@ -168,7 +196,7 @@ fn engine_fault(s: Sheet, r: &[u8]) -> u8
     if too_many(s) {
         return 10;
     }
-    if bad_unused(r) {
+    if engine_unused(r) {
         return 12;
     }
     0
@@ -180,7 +208,7 @@ fn stop_fault(s: Sheet, r: &[u8]) -> u8
     if s.plan == 4 {
         return 11;
     }
-    if bad_unused(r) {
+    if stop_unused(r) {
         return 12;
     }
     0

@@ -4,7 +4,6 @@ ghost use Prim.Native.Nat.{_+_, _*_, _≤_, _<_};
 ghost use lib.ListN.{length, take, drop};
 ghost use Rattle.rules.specs.Tools.{within, byte, two, four};
 ghost use Rattle.rules.specs.Sheet.{kind, number, plan, limit, deviation, cause, measurement};
-ghost use Rattle.rules.specs.Refusals.{nonzero};
 use crate::Sheet;
 
 // Record k of a sheet.
@@ -16,24 +15,44 @@ pub fn record_at(sheet: &[u8], k: usize) -> &[u8]
     &sheet[start..start + Sheet::RECORD]
 }
 
+// Byte i of a record that has it.
+fn present(r: &[u8], i: usize) -> u32
+    requires { ⌜ i < length (now r) ⌝ }
+    ensures { λ n. ⌜ (n ≡ byte (now (r .entry)) i) × (n < 256) ⌝ }
+{
+    r[i] as u32
+}
+
 pub fn byte_at(r: &[u8], i: usize) -> u32
     ensures { λ n. ⌜ (n ≡ byte (now (r .entry)) i) × (n < 256) ⌝ }
 {
-    if i < r.len() { r[i] as u32 } else { 0 }
+    if i < r.len() { present(r, i) } else { 0 }
 }
 
+// One question for both bytes, so that they are read together.
 pub fn u16_at(r: &[u8], i: usize) -> u32
     requires { ⌜ i < 20 ⌝ }
     ensures { λ n. ⌜ (n ≡ two (now (r .entry)) i) × (n < 65536) ⌝ }
 {
-    byte_at(r, i) + 256 * byte_at(r, i + 1)
+    if i + 1 < r.len() {
+        present(r, i) + 256 * present(r, i + 1)
+    } else {
+        byte_at(r, i) + 256 * byte_at(r, i + 1)
+    }
 }
 
+// One question for all four bytes, so that they are read together.
 pub fn u32_at(r: &[u8], i: usize) -> u32
     requires { ⌜ i < 18 ⌝ }
     ensures { λ n. ⌜ n ≡ four (now (r .entry)) i ⌝ }
 {
-    u16_at(r, i) + 65536 * u16_at(r, i + 2)
+    if i + 3 < r.len() {
+        present(r, i)
+            + 256 * present(r, i + 1)
+            + 65536 * (present(r, i + 2) + 256 * present(r, i + 3))
+    } else {
+        u16_at(r, i) + 65536 * u16_at(r, i + 2)
+    }
 }
 
 // "Byte 0 is the kind."
@@ -79,20 +98,6 @@ pub fn measurement_of(r: &[u8], p: u32) -> u32
     ensures { λ n. ⌜ n ≡ measurement (now (r .entry)) p ⌝ }
 {
     u32_at(r, 4 * (p as usize))
-}
-
-// Whether some byte from start up to and without end is not zero.
-pub fn is_nonzero(r: &[u8], start: usize, end: usize) -> bool
-    ensures { λ b. ⌜ b ≡ nonzero (now (r .entry)) start end ⌝ }
-{
-    let mut i = start;
-    while i < end {
-        if byte_at(r, i) != 0 {
-            return true;
-        }
-        i += 1;
-    }
-    false
 }
 
 // Whether x is lo to hi, both counted in.

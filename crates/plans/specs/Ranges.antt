@@ -1,4 +1,4 @@
--- What the crate `series` keeps the numbers of a row within.
+-- What the crate `standings` keeps the numbers of a row within.
 use Prim.Native.Nat.{ℕ, _≤_}
 
 -- the number of a row

@@ -1,6 +1,6 @@
 // A row of each of document 01's four plans: "A row gives pass, fail or open".
 //
-// The functions are open to the crate `series` alone, which calls them with sums that it has bounded (specs/Ranges).
+// The functions are open to the crate `standings` alone, which calls them with sums that it has bounded (specs/Ranges).
 // D is given as two naturals, what is added and what is taken away. W is given as `spread`.
 ghost use mathlib.Core.Path.{_≡_};
 ghost use Prim.Native.Nat.{_≤_};

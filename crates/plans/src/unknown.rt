@@ -8,7 +8,7 @@ use crate::roots::at_least;
 use crate::roots::at_most_negative;
 
 // "Hundred-thousandths, A/B from n = 3": A without its minus.
-const A: [u64; 30] = [
+const A: [u32; 30] = [
     80381,
     76339,
     72982,
@@ -42,7 +42,7 @@ const A: [u64; 30] = [
 ];
 
 // 0 at 32, which has no B.
-const B: [u64; 30] = [
+const B: [u32; 30] = [
     1664743,
     768627,
     467136,
@@ -80,7 +80,7 @@ pub fn a(n: u64) -> u64
     ensures value { λ r. ⌜ negℤ (pos r) ≡ unknownNumbers n .A ⌝ }
     ensures range { λ r. ⌜ (1 ≤ r) × (r ≤ 1664743) ⌝ }
 {
-    A[(n - 3) as usize]
+    A[(n - 3) as usize] as u64
 }
 
 pub fn b(n: u64) -> u64
@@ -88,19 +88,27 @@ pub fn b(n: u64) -> u64
     ensures value { λ r. ⌜ pos r ≡ unknownNumbers n .B ⌝ }
     ensures range { λ r. ⌜ r ≤ 1664743 ⌝ }
 {
-    B[(n - 3) as usize]
+    B[(n - 3) as usize] as u64
 }
 
+// A is below 0 in every row, so only a D that is not above 0 passes; the table is looked at where it can decide.
 pub fn passes(n: u64, added: u64, taken: u64, spread: u64) -> bool
     requires { ⌜ Ranges n added taken ⌝ }
     ensures { λ r. ⌜ r ≡ rootPasses (unknownNumbers n .A) (pos added -ℤ pos taken) (pos spread) ⌝ }
 {
+    if taken < added {
+        return false;
+    }
     at_most_negative(a(n), added, taken, spread)
 }
 
+// Only a D that is not below 0 fails.
 pub fn fails(n: u64, added: u64, taken: u64, spread: u64) -> bool
     requires { ⌜ Ranges n added taken ⌝ }
     ensures { λ r. ⌜ r ≡ rootFails (unknownNumbers n .B) (pos added -ℤ pos taken) (pos spread) ⌝ }
 {
+    if added < taken {
+        return false;
+    }
     at_least(b(n), added, taken, spread)
 }

@@ -1,4 +1,4 @@
--- Document 01 (papers/01-scope.md), a file for each of its sections. The refusals stand before the operations, which use them.
+-- Document 01, the specification, a file for each of its sections. The refusals stand before the operations, which use them.
 --
 -- Two numbers are parameters throughout, each put in at one place:
 -- w, the pollutants that the format has room for (`pollutants` in Sheet), and q, the squarings of the logarithm (`squarings` in Logarithm).
@@ -9,4 +9,5 @@ pub mod Plans
 pub mod Series
 pub mod Refusals
 pub mod Operations
+pub mod Printed
 pub mod Demands

@@ -15,13 +15,13 @@ use Rattle.series.specs.declared.Standings.{Standings}
 use Rattle.series.specs.declared.Emitters.{Emitters}
 use Rattle.series.specs.declared.Before.{Before}
 use Rattle.series.specs.declared.Before.the-variants.{Early, Statistics}
-use Rattle.series.specs.Progress.{addedAll, beforeBy, BoundedAll, InRowsAll}
+use Rattle.series.specs.Progress.{addedAll, beforeBy, KeepsAll, InRowAll}
 
-pub all-later : {n k : ℕ} {s : Standings} → n ≤ k → BoundedAll n s → BoundedAll k s
-all-later l b =
-    record { co = bounded-later l (b .co); hc = bounded-later l (b .hc); nox = bounded-later l (b .nox); pm = bounded-later l (b .pm) }
+pub all-later : {n k : ℕ} (s : Standings) → n ≤ k → KeepsAll n s → KeepsAll k s
+all-later s l b =
+    record { co = bounded-later (s .co) l (b .co); hc = bounded-later (s .hc) l (b .hc); nox = bounded-later (s .nox) l (b .nox); pm = bounded-later (s .pm) l (b .pm) }
 
-pub all-added : (plan : Plan) (n : ℕ) (s : Standings) (r : Record) → BoundedAll n s → BoundedAll (n + 1) (addedAll plan s r)
+pub all-added : (plan : Plan) (n : ℕ) (s : Standings) (r : Record) → KeepsAll n s → KeepsAll (n + 1) (addedAll plan s r)
 unfolding addedAll
 all-added plan n s r b =
     rw add-one (record {
@@ -31,7 +31,7 @@ all-added plan n s r b =
       pm = added-bounded plan n (s .pm) (measurement r 4) (b .pm);
     })
 
-pub all-in-rows : {plan : Plan} {n : ℕ} {s : Standings} → BoundedAll n s → 3 ≤ n → n ≤ lastRow (planIs plan) → InRowsAll plan n s
+pub all-in-rows : {plan : Plan} {n : ℕ} {s : Standings} → KeepsAll n s → 3 ≤ n → n ≤ lastRow (planIs plan) → InRowAll plan n s
 all-in-rows b l m =
     record {
       co = record { bounded = b .co; least = l; most = m };

@@ -18,9 +18,8 @@ use Rattle.sheet.specs.declared.Checked.{Checked}
 use Rattle.sheet.specs.declared.Checked.the-variants as checked
 use Rattle.sheet.specs.Check.{checkedOf}
 use Rattle.sheet.proofs.Laws as laws
-use Rattle.series.specs.declared.Ground.the-variants as ground
 use Rattle.series.specs.declared.Verdict.{Verdict}
-use Rattle.series.specs.declared.Verdict.the-variants.{Another, Pass, Fail, Referred}
+use Rattle.series.specs.declared.Verdict.the-variants.{Another, Pass, FailByRow, FailByCause, FailByStop, Referred}
 use Rattle.series.specs.declared.Judgement.{Judgement}
 use Rattle.series.specs.Answers.{verdictIs, pairsIs, judgementIs, evidenceLength}
 use Rattle.series.specs.Progress.{Valid}
@@ -112,9 +111,9 @@ module _ {b : List ℕ} {s : Sheet} (v : Valid b s) (j : Judgement) (e : judgeme
       cases : (u : Verdict) → engineOf (verdictIs u pairs) ≤ length (engines (records pollutants b)) → evidenceLength u (length b) (s .pollutants) ≤ length b
       cases (Another n) h = omega arith
       cases (Pass n) h = fits n h
-      cases (Fail n ground.Row) h = fits n h
-      cases (Fail n ground.EqualCause) h = fits n h
-      cases (Fail n ground.Stopped) h = omega arith
+      cases (FailByRow n) h = fits n h
+      cases (FailByCause n) h = fits n h
+      cases (FailByStop n) h = omega arith
       cases (Referred n) h = omega arith
 
   pub evidence-accepted : take (evidenceLength (j .verdict) (length b) (s .pollutants)) b ≡ evidence pollutants squarings b
@@ -124,7 +123,7 @@ module _ {b : List ℕ} {s : Sheet} (v : Valid b s) (j : Judgement) (e : judgeme
       cases : (u : Verdict) → take (evidenceLength u (length b) (length (ofKind 1 (records pollutants b)))) b ≡ evidenceBy pollutants (verdictIs u pairs) b
       cases (Another n) = take-length b
       cases (Pass n) = refl
-      cases (Fail n ground.Row) = refl
-      cases (Fail n ground.EqualCause) = refl
-      cases (Fail n ground.Stopped) = take-length b
+      cases (FailByRow n) = refl
+      cases (FailByCause n) = refl
+      cases (FailByStop n) = take-length b
       cases (Referred n) = take-length b

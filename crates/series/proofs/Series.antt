@@ -23,12 +23,11 @@ use Rattle.series.specs.declared.Emitters.{Emitters}
 use Rattle.series.specs.declared.Progress.{Progress}
 use Rattle.series.specs.declared.Before.{Before}
 use Rattle.series.specs.declared.Before.the-variants as before
-use Rattle.series.specs.declared.Ground.the-variants as ground
 use Rattle.series.specs.declared.Verdict.the-variants as verdict
 use Rattle.series.specs.declared.Turn.{Turn}
 use Rattle.series.specs.declared.Turn.the-variants.{Ongoing, Decided}
 use Rattle.series.specs.Answers.{judgementIs, pairsIs}
-use Rattle.series.specs.Progress.{addedAll, lookedAll, failedOf, anyFailed, anyWaits, recordAt, emittersWith, beforeBy, beforeIs, judgementOf, ongoing, settledBy, turnBy, nextTurn}
+use Rattle.series.specs.Progress.{addedAll, lookedAll, failedOf, anyFailed, anyWaits, recordAt, emittersWith, beforeBy, beforeIs, judgementOf, ongoing, decided, settledBy, turnBy, nextTurn}
 use Rattle.series.proofs.Emitting.{isInService, Emits, emits-more, before-is}
 
 module _ (plan : Plan) (ps : List Pollutant) (es : List Record) where
@@ -97,7 +96,7 @@ module _ (plan : Plan) (ps : List Pollutant) (order : InOrder pollutants 0 ps) (
   -- what a turn says of the definition's series after n engines
   abbrev pub Says : (n : ℕ) → rules.Series → Turn → Type 0
   Says n series (Ongoing p) = (ss : List rules.Standing) × (series ≡ rules.ongoing ss) × FollowsAll plan ps es n ss (p .standings) × Emits es n (p .emitters)
-  Says n series (Decided j) = Ended series × ((stop : Bool) (tested : ℕ) → rules.answer pollutants stop tested series ≡ judgementIs j)
+  Says n series (Decided p v) = Ended series × ((stop : Bool) (tested : ℕ) → rules.answer pollutants stop tested series ≡ judgementIs (judgementOf v (p .standings)))
 
   module _ (n : ℕ) (h : n ≤ length es) (ss : List rules.Standing) (s : Standings) (f : FollowsAll plan ps es n ss s) (e : Emitters) (m : Emits es n e) where
     abbrev q : ℕ
@@ -131,7 +130,7 @@ module _ (plan : Plan) (ps : List Pollutant) (order : InOrder pollutants 0 ps) (
     settled = rw (any-failed-is n looks S looked-all, all-passed-is n looks S looked-all) (cases (anyFailed S) (anyWaits S))
       where
         cases : (a b : Bool) → Says n (rules.settleBy a (not b) n looks)
-            (cond a (Decided (judgementOf (verdict.Fail n ground.Row) S)) (cond b (ongoing S e) (Decided (judgementOf (verdict.Pass n) S))))
+            (cond a (decided (verdict.FailByRow n) S e) (cond b (ongoing S e) (decided (verdict.Pass n) S e)))
         cases true b = (tt, λ stop t. pairs-so 2 1)
         cases false true = (looks, refl, looked-all, m)
         cases false false = (tt, λ stop t. pairs-so 1 1)

@@ -27,10 +27,10 @@ use Rattle.faults.proofs.Agreement.{Agrees}
 use Rattle.sheet.proofs.Laws as laws
 use Rattle.standings.proofs.Follows.{start-follows}
 use Rattle.series.specs.declared.Progress.{Progress}
-use Rattle.series.specs.declared.Judgement.{Judgement}
 use Rattle.series.specs.declared.Turn.the-variants.{Ongoing, Decided}
+use Rattle.series.specs.declared.Verdict.{Verdict}
 use Rattle.series.specs.Answers.{judgementIs}
-use Rattle.series.specs.Progress.{startedAll, recordAt, nextTurn, ending, NextRanges, Valid}
+use Rattle.series.specs.Progress.{startedAll, recordAt, judgementOf, nextTurn, ending, NextRanges, Valid}
 use Rattle.series.proofs.Emitting.{isInService, emits-none}
 use Rattle.series.proofs.Series.{Going, Says, pairs-are, next-says}
 
@@ -139,7 +139,8 @@ module _ {b : List ℕ} {s : Sheet} (v : Valid b s) where
           let t = rw e at says in
           rw add-one (record { standing = t .0; series = t .1; follows = t .2; emits = t .3 })
 
-      pub next-decided : {j : Judgement} → nextTurn b (s .pollutants) n plan p ≡ Decided j → judgementIs j ≡ series.judgeRecords pollutants squarings rs
+      pub next-decided : {p′ : Progress} {v : Verdict} → nextTurn b (s .pollutants) n plan p ≡ Decided p′ v
+          → judgementIs (judgementOf v (p′ .standings)) ≡ series.judgeRecords pollutants squarings rs
       next-decided e =
           let t = rw e at says in
           let z : length es - suc n + suc n ≡ length es = omega (arith, engines-are) in
@@ -153,7 +154,7 @@ module _ {b : List ℕ} {s : Sheet} (v : Valid b s) where
             inside = omega (arith, counts-fit);
             few = omega (arith, few);
             row = omega (arith, rows-fit);
-            bounded = record { co = f .co .bounded; hc = f .hc .bounded; nox = f .nox .bounded; pm = f .pm .bounded };
+            keeps = record { co = f .co .bounded; hc = f .hc .bounded; nox = f .nox .bounded; pm = f .pm .bounded };
             counted =
                 omega (arith, g .emits .count, length-those hasCause (take n es), length-take-le n es (omega (arith, engines-are)), few);
           }

@@ -16,13 +16,12 @@ use Rattle.faults.specs.declared.Quantities.{Quantities}
 use Rattle.faults.specs.declared.Sheet.{Sheet}
 use Rattle.sheet.specs.Check.{summary}
 use Rattle.standings.specs.declared.Standing.{Standing}
-use Rattle.standings.specs.Standing.{decisionIs, started, added, looked, waitsFor, Bounded, InRows}
+use Rattle.standings.specs.Standing.{decisionIs, started, added, looked, waitsFor, Keeps, InRow}
 use Rattle.series.specs.declared.Standings.{Standings}
 use Rattle.series.specs.declared.Emitters.{Emitters}
 use Rattle.series.specs.declared.Progress.{Progress}
 use Rattle.series.specs.declared.Before.{Before}
 use Rattle.series.specs.declared.Before.the-variants as before
-use Rattle.series.specs.declared.Ground.the-variants as ground
 use Rattle.series.specs.declared.Verdict.{Verdict}
 use Rattle.series.specs.declared.Verdict.the-variants as verdict
 use Rattle.series.specs.declared.Judgement.{Judgement}
@@ -106,15 +105,18 @@ judgementOf v s =
 abbrev pub ongoing : Standings → Emitters → Turn
 ongoing s e = Ongoing (record { standings = s; emitters = e })
 
+abbrev pub decided : Verdict → Standings → Emitters → Turn
+decided v s e = Decided (record { standings = s; emitters = e }) v
+
 unfoldable pub settledBy : (n : ℕ) → Standings → Emitters → Turn
 settledBy n s e =
-    cond (anyFailed s) (Decided (judgementOf (verdict.Fail n ground.Row) s))
-    (cond (anyWaits s) (ongoing s e) (Decided (judgementOf (verdict.Pass n) s)))
+    cond (anyFailed s) (decided (verdict.FailByRow n) s e)
+    (cond (anyWaits s) (ongoing s e) (decided (verdict.Pass n) s e))
 
 abbrev pub turnBy : Before → Plan → (n : ℕ) → Standings → Emitters → Turn
 turnBy before.Early plan n s e = ongoing s e
-turnBy before.EqualCause plan n s e = Decided (judgementOf (verdict.Fail n ground.EqualCause) s)
-turnBy before.Referral plan n s e = Decided (judgementOf (verdict.Referred n) s)
+turnBy before.EqualCause plan n s e = decided (verdict.FailByCause n) s e
+turnBy before.Referral plan n s e = decided (verdict.Referred n) s e
 turnBy before.LeftOpen plan n s e = ongoing s e
 turnBy before.Statistics plan n s e = settledBy n (lookedAll plan n s) e
 
@@ -128,28 +130,31 @@ nextTurn b start n plan p =
 -- ---- the end: "A stop on an undecided series fails it at the engines tested", "Otherwise: another."
 
 unfoldable pub ending : (stop : Bool) → (n : ℕ) → Standings → Judgement
-ending stop n s = judgementOf (cond stop (verdict.Fail n ground.Stopped) (verdict.Another n)) s
+ending stop n s = judgementOf (cond stop (verdict.FailByStop n) (verdict.Another n)) s
 
 -- ---- ranges
 
-pub record BoundedAll (n : ℕ) (s : Standings) : Type 0 where
-  pub co : Bounded n (s .co)
-  pub hc : Bounded n (s .hc)
-  pub nox : Bounded n (s .nox)
-  pub pm : Bounded n (s .pm)
+pub record KeepsAll (n : ℕ) (s : Standings) : Type 0 where
+  pub co : Keeps n (s .co)
+  pub hc : Keeps n (s .hc)
+  pub nox : Keeps n (s .nox)
+  pub pm : Keeps n (s .pm)
 
-pub record InRowsAll (plan : Plan) (n : ℕ) (s : Standings) : Type 0 where
-  pub co : InRows plan n (s .co)
-  pub hc : InRows plan n (s .hc)
-  pub nox : InRows plan n (s .nox)
-  pub pm : InRows plan n (s .pm)
+abbrev pub InRowOf : Plan → (n : ℕ) → Standing → Type 0
+InRowOf plan n s = InRow plan n (s .sum) (s .squares) (s .level) (s .deviation)
+
+pub record InRowAll (plan : Plan) (n : ℕ) (s : Standings) : Type 0 where
+  pub co : InRowOf plan n (s .co)
+  pub hc : InRowOf plan n (s .hc)
+  pub nox : InRowOf plan n (s .nox)
+  pub pm : InRowOf plan n (s .pm)
 
 -- what the row of the engine behind n engines keeps to, on a sheet of so many bytes
 pub record NextRanges (bytes start n : ℕ) (plan : Plan) (p : Progress) : Type 0 where
   pub inside : 20 * (start + n + 1) ≤ bytes
   pub few : start + n < 1000
   pub row : n + 1 ≤ lastRow (planIs plan)
-  pub bounded : BoundedAll n (p .standings)
+  pub keeps : KeepsAll n (p .standings)
   pub counted : p .emitters .count < 1000
 
 -- a sheet that the check accepts, with what it says

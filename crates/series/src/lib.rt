@@ -8,8 +8,9 @@ ghost use Rattle.rules.specs.Plans.{lastRow};
 ghost use Rattle.rules.specs.Series.{judgeRecords};
 ghost use Rattle.rules.specs.Operations as rules;
 ghost use Rattle.plan.specs.Plan.{planIs};
-ghost use Rattle.series.specs.Progress.{startedAll, addedAll, lookedAll, anyFailed, anyWaits, causedBefore, emittersWith, beforeBy, judgementOf, settledBy, turnBy, nextTurn, ending, BoundedAll, InRowsAll, NextRanges, Valid};
-ghost use Rattle.series.specs.Answers.{judgementIs, judgedIs, refusalIn, evidenceLength};
+ghost use Rattle.series.specs.Progress.{startedAll, addedAll, lookedAll, anyFailed, anyWaits, causedBefore, emittersWith, beforeBy, judgementOf, settledBy, turnBy, nextTurn, ending, KeepsAll, InRowAll, NextRanges, Valid};
+ghost use Rattle.sheet.specs.Check.{checkedOf};
+ghost use Rattle.series.specs.Answers.{judgementIs, judgedIs, judgedOf, limitsOf, limitsIn, refusalIn, evidenceLength};
 use faults::Quantities;
 use faults::Sheet;
 use faults::field::cause_of;
@@ -52,18 +53,13 @@ pub enum Before {
     Statistics,
 }
 
-// The ground of a fail.
-pub enum Ground {
-    Row,
-    EqualCause,
-    Stopped,
-}
-
-// A verdict with its engine; for another, the engines so far.
+// A verdict with its engine; for another, the engines so far. A fail has its ground in its name.
 pub enum Verdict {
     Another(u8),
     Pass(u8),
-    Fail(u8, Ground),
+    FailByRow(u8),
+    FailByCause(u8),
+    FailByStop(u8),
     Referred(u8),
 }
 
@@ -75,14 +71,20 @@ pub struct Judgement {
     pub pm: Decision,
 }
 
-// What a row makes of a series that is going on.
+// What a row makes of a series that is going on. Both cases begin alike in memory, so that a row leaves the sums where they are.
 pub enum Turn {
     Ongoing(Progress),
-    Decided(Judgement),
+    Decided(Progress, Verdict),
 }
 
 pub enum Judged {
     Judgement(Judgement),
+    Refused(Refusal),
+}
+
+// What judging answers, with the limits of a sheet that it does not refuse: 0 where a pollutant is not declared.
+pub enum JudgedWithLimits {
+    Judgement(Judgement, Quantities),
     Refused(Refusal),
 }
 
@@ -100,7 +102,7 @@ impl Standings {
 
     // With the measurements of an engine.
     fn with(self, plan: Plan, r: &[u8]) -> Standings
-        requires { ⌜ BoundedAll 31 self ⌝ }
+        requires { ⌜ KeepsAll 31 self ⌝ }
         ensures { λ s. ⌜ s ≡ addedAll plan self (now (r .entry)) ⌝ }
     {
         let co = self.co;
@@ -117,18 +119,55 @@ impl Standings {
 
     // After row n.
     fn at_row(self, plan: Plan, n: u64) -> Standings
-        requires { ⌜ InRowsAll plan n self ⌝ }
+        requires { ⌜ InRowAll plan n self ⌝ }
         ensures { λ s. ⌜ s ≡ lookedAll plan n self ⌝ }
     {
         let co = self.co;
         let hc = self.hc;
         let nox = self.nox;
         let pm = self.pm;
+        let co_row = standings::row(
+            co.looks(),
+            plan,
+            n,
+            co.sum,
+            co.squares,
+            co.level,
+            co.deviation,
+        );
+        let hc_row = standings::row(
+            hc.looks(),
+            plan,
+            n,
+            hc.sum,
+            hc.squares,
+            hc.level,
+            hc.deviation,
+        );
+        let nox_row = standings::row(
+            nox.looks(),
+            plan,
+            n,
+            nox.sum,
+            nox.squares,
+            nox.level,
+            nox.deviation,
+        );
+        let pm_row = standings::row(
+            pm.looks(),
+            plan,
+            n,
+            pm.sum,
+            pm.squares,
+            pm.level,
+            pm.deviation,
+        );
+        let engine = n as u8;
         Standings {
-            co: co.at_row(plan, n),
-            hc: hc.at_row(plan, n),
-            nox: nox.at_row(plan, n),
-            pm: pm.at_row(plan, n),
+            co: co.decide(engine, co_row),
+            hc: hc.decide(engine, hc_row),
+            nox: nox.decide(engine, nox_row),
+            pm: pm.decide(engine, pm_row),
         }
     }
 
@@ -234,38 +273,34 @@ fn before_row(n: u64, e: Emitters) -> Before
 fn settle(n: u8, standings: Standings, emitters: Emitters) -> Turn
     ensures { λ t. ⌜ t ≡ settledBy n standings emitters ⌝ }
 {
+    let progress = Progress {
+        standings: standings,
+        emitters: emitters,
+    };
     if standings.any_failed() {
-        return Turn::Decided(standings.judged(Verdict::Fail(n, Ground::Row)));
+        return Turn::Decided(progress, Verdict::FailByRow(n));
     }
     if standings.any_waits() {
-        return Turn::Ongoing(Progress {
-            standings: standings,
-            emitters: emitters,
-        });
+        return Turn::Ongoing(progress);
     }
-    Turn::Decided(standings.judged(Verdict::Pass(n)))
+    Turn::Decided(progress, Verdict::Pass(n))
 }
 
 // Row n of a series that is going on, with the measurements and the causes of its engines added.
 fn row(plan: Plan, n: u64, standings: Standings, emitters: Emitters) -> Turn
-    requires { ⌜ (n ≤ lastRow (planIs plan)) × BoundedAll n standings ⌝ }
+    requires { ⌜ (n ≤ lastRow (planIs plan)) × KeepsAll n standings ⌝ }
     ensures { λ t. ⌜ t ≡ turnBy (beforeBy n emitters) plan n standings emitters ⌝ }
 {
     let first = before_row(n, emitters);
+    let progress = Progress {
+        standings: standings,
+        emitters: emitters,
+    };
     match first {
-        Before::Early => Turn::Ongoing(Progress {
-            standings: standings,
-            emitters: emitters,
-        }),
-        Before::EqualCause => Turn::Decided(standings.judged(Verdict::Fail(
-            n as u8,
-            Ground::EqualCause,
-        ))),
-        Before::Referral => Turn::Decided(standings.judged(Verdict::Referred(n as u8))),
-        Before::LeftOpen => Turn::Ongoing(Progress {
-            standings: standings,
-            emitters: emitters,
-        }),
+        Before::Early => Turn::Ongoing(progress),
+        Before::EqualCause => Turn::Decided(progress, Verdict::FailByCause(n as u8)),
+        Before::Referral => Turn::Decided(progress, Verdict::Referred(n as u8)),
+        Before::LeftOpen => Turn::Ongoing(progress),
         Before::Statistics => settle(n as u8, standings.at_row(plan, n), emitters),
     }
 }
@@ -312,8 +347,9 @@ fn walk(bytes: &[u8], sheet: Sheet) -> Judgement
             Turn::Ongoing(p) => {
                 progress = p;
             }
-            Turn::Decided(judgement) => {
-                return judgement;
+            Turn::Decided(p, verdict) => {
+                let decided = p.standings;
+                return decided.judged(verdict);
             }
         }
     }
@@ -326,7 +362,7 @@ fn end(stop: bool, n: u8, standings: Standings) -> Judgement
     ensures { λ j. ⌜ j ≡ ending stop n standings ⌝ }
 {
     if stop {
-        standings.judged(Verdict::Fail(n, Ground::Stopped))
+        standings.judged(Verdict::FailByStop(n))
     } else {
         standings.judged(Verdict::Another(n))
     }
@@ -356,6 +392,19 @@ pub fn judge(bytes: &[u8]) -> Judged
     Judged::Judgement(walk(bytes, sheet))
 }
 
+// Judges the bytes of a sheet, and hands out its limits too.
+pub fn judge_with_limits(bytes: &[u8]) -> JudgedWithLimits
+    ensures { λ j. ⌜ (judgedIs (judgedOf j) ≡ rules.judge pollutants squarings (now (bytes .entry))) × (limitsOf j ≡ limitsIn (checkedOf (now (bytes .entry)))) ⌝ }
+{
+    let checked = check(bytes);
+    let Checked::Sheet(sheet) = checked else {
+        return JudgedWithLimits::Refused(refusal(checked));
+    };
+    let judgement = walk(bytes, sheet);
+    let limits = sheet.limits;
+    JudgedWithLimits::Judgement(judgement, limits)
+}
+
 // The bytes through the record of engine n, which stands behind the pollutants and n - 1 engines.
 fn through(pollutants: u32, n: u8) -> usize
     requires { ⌜ pollutants < 1000 ⌝ }
@@ -373,11 +422,9 @@ fn evidence_length(verdict: Verdict, length: usize, pollutants: u32) -> usize
     match verdict {
         Verdict::Another(_) => length,
         Verdict::Pass(n) => through(pollutants, n),
-        Verdict::Fail(n, ground) => match ground {
-            Ground::Row => through(pollutants, n),
-            Ground::EqualCause => through(pollutants, n),
-            Ground::Stopped => length,
-        },
+        Verdict::FailByRow(n) => through(pollutants, n),
+        Verdict::FailByCause(n) => through(pollutants, n),
+        Verdict::FailByStop(_) => length,
         Verdict::Referred(_) => length,
     }
 }

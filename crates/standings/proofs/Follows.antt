@@ -1,7 +1,7 @@
 -- A standing follows its pollutant through the series: what one engine and one row do to it is what the definition says.
 use Prim.Native.Nat.{ℕ, suc, _+_, _*_, _≤_, _<_}
 use native.Mathlib.Omega.{arith}
-use mathlib.Core.Path.{_≡_, refl, sym, _∙_}
+use mathlib.Core.Path.{_≡_, refl, sym, ap, _∙_}
 use mathlib.Core.Bool.{Bool, true, false, not, cond}
 use mathlib.Core.List.{List, [], _∷_, _++_, map}
 use lib.Dec.{eqb}
@@ -19,9 +19,20 @@ use Rattle.plan.specs.declared.Plan.{Plan}
 use Rattle.plan.specs.Plan.{planIs}
 use Rattle.standings.specs.declared.Decision.{Decision}
 use Rattle.standings.specs.declared.Standing.{Standing}
-use Rattle.standings.specs.Standing.{decisionIs, isUndecided, looksAt, score, started, added, rowFrom, decisionBy, looked, Bounded}
+use Rattle.standings.specs.Standing.{decisionIs, isUndecided, looksAt, score, started, added, rowFrom, decisionBy, decidedBy, looked, Keeps}
 use Rattle.standings.proofs.Ranges.{level-most, added-bounded}
 use Rattle.standings.proofs.Scores.{scores-snoc, squares-snoc, Adds, row-is}
+
+-- ---- a row that does not look at the pollutant leaves it as it is
+
+pub decided-row : (n : ℕ) (s : Standing) (r : rules.Row) {looks : Bool} {said : rules.Row} → looks ≡ looksAt s → said ≡ cond looks r rules.undecided
+    → decidedBy n said s ≡ decidedBy n r s
+unfolding decidedBy
+decided-row n s r {looks} {said} e f = cases (looksAt s) refl
+  where
+    cases : (b : Bool) → looksAt s ≡ b → decidedBy n said s ≡ decidedBy n r s
+    cases true q = ap (λ (x : rules.Row). decidedBy n x s) (rw (e ∙ q) at f)
+    cases false q = rw q refl
 
 -- ---- the relation
 
@@ -41,7 +52,7 @@ module _ (plan : Plan) (ps : List Pollutant) (p : ℕ) where
     pub limit : s .limit ≡ L
     pub decision : decisionIs (s .decision) ≡ series.decisionOf p ss
     pub adds : looksAt s ≡ true → Adds plan L t (measurements es n) s
-    pub bounded : Bounded n s
+    pub bounded : Keeps n s
 
   -- ---- before the first engine
 
@@ -66,7 +77,7 @@ module _ (plan : Plan) (ps : List Pollutant) (p : ℕ) where
               sum-most = omega arith;
               squares-most = omega arith;
               spread = omega arith;
-              log-most = level-most plan L;
+              level-most = level-most plan L;
               deviation-most = deviation-most w m ps order p;
             };
       }
@@ -105,7 +116,7 @@ module _ (plan : Plan) (ps : List Pollutant) (p : ℕ) where
     unfolding added
     added-follows = cases (looksAt s) refl (added-bounded plan n s x (f .bounded))
       where
-        cases : (b : Bool) → looksAt s ≡ b → Bounded (suc n) (cond b more s) → Follows es (suc n) ss (cond b more s)
+        cases : (b : Bool) → looksAt s ≡ b → Keeps (suc n) (cond b more s) → Follows es (suc n) ss (cond b more s)
         cases true e b = record { limit = f .limit; decision = f .decision; adds = λ i. more-adds e; bounded = b }
         cases false e b = record { limit = f .limit; decision = f .decision; adds = λ i. never (sym i ∙ e); bounded = b }
 
@@ -135,6 +146,10 @@ module _ (plan : Plan) (ps : List Pollutant) (p : ℕ) where
     abbrev said : rules.Row
     said = rules.row (planIs plan) squarings n L t (measurements es n)
 
+    -- and what the program's row says
+    abbrev said-by : rules.Row
+    said-by = rowFrom plan n (s .sum) (s .squares) (s .level) (s .deviation)
+
     declared-decision : declares ps p ≡ true → series.decisionOf p after ≡ series.lookedAt n said (series.decisionOf p ss)
     declared-decision e = rw same at (decision-look (planIs plan) squarings n (take n es) p ss (rw same e))
 
@@ -147,7 +162,7 @@ module _ (plan : Plan) (ps : List Pollutant) (p : ℕ) where
     count : length (measurements es n) ≡ n
     count = length-map (take n es) (λ r. measurement r p) ∙ length-take-le n es h
 
-    row-said : looksAt s ≡ true → rowFrom plan n s ≡ said
+    row-said : looksAt s ≡ true → said-by ≡ said
     row-said e = rw count at (row-is plan L t (measurements es n) s (f .adds e))
 
     looks-declared : looksAt s ≡ true → declares ps p ≡ true
@@ -158,7 +173,7 @@ module _ (plan : Plan) (ps : List Pollutant) (p : ℕ) where
     unfolding looksAt
     looks-open e = sym (f .decision) ∙ is-open (decisionIs (s .decision)) (and-true (not (eqb (s .limit) 0)) (isUndecided (decisionIs (s .decision))) e .1)
 
-    looked-decision : looksAt s ≡ true → decisionIs (decisionBy n (rowFrom plan n s)) ≡ series.decisionOf p after
+    looked-decision : looksAt s ≡ true → decisionIs (decisionBy n said-by) ≡ series.decisionOf p after
     looked-decision e = rw (row-said e, declared-decision (looks-declared e), looks-open e) (decided-is n said)
 
     unlooked-decision : looksAt s ≡ false → decisionIs (s .decision) ≡ series.decisionOf p after
@@ -172,7 +187,7 @@ module _ (plan : Plan) (ps : List Pollutant) (p : ℕ) where
         cases false d = undeclared-decision d
 
     pub looked-follows : Follows es n after (looked plan n s)
-    unfolding looked
+    unfolding decidedBy
     looked-follows = cases (looksAt s) refl
       where
         row-made : Standing
@@ -182,17 +197,16 @@ module _ (plan : Plan) (ps : List Pollutant) (p : ℕ) where
           deviation = s .deviation;
           sum = s .sum;
           squares = s .squares;
-          decision = decisionBy n (rowFrom plan n s);
+          decision = decisionBy n said-by;
         }
 
         cases : (b : Bool) → looksAt s ≡ b → Follows es n after (cond b row-made s)
         cases true e =
             let a = f .adds e in
-            let b = f .bounded in
             record {
               limit = f .limit;
               decision = looked-decision e;
               adds = λ i. record { level = a .level; deviation = a .deviation; sum = a .sum; squares = a .squares };
-              bounded = record { sum-most = b .sum-most; squares-most = b .squares-most; spread = b .spread; log-most = b .log-most; deviation-most = b .deviation-most };
+              bounded = f .bounded;
             }
         cases false e = record { limit = f .limit; decision = unlooked-decision e; adds = f .adds; bounded = f .bounded }

@@ -12,7 +12,7 @@ use Rattle.plan.specs.declared.Plan.{Plan}
 use Rattle.plan.specs.declared.Plan.the-variants.{KnownDeviation, UnknownDeviation, Attributes, InService}
 use Rattle.plan.specs.Plan.{planIs}
 use Rattle.standings.specs.declared.Standing.{Standing}
-use Rattle.standings.specs.Standing.{looksAt, takesLogarithms, score, levelOf, added, highest, Bounded, InRows}
+use Rattle.standings.specs.Standing.{looksAt, takesLogarithms, score, levelOf, added, highest, Keeps, InRow, SpreadRange}
 
 pub last-most : (plan : Plan) → lastRow (planIs plan) ≤ 32
 last-most KnownDeviation = omega arith
@@ -38,27 +38,25 @@ level-most plan L = cases (takesLogarithms plan)
     cases false = omega arith
 
 -- a row's numbers
-pub record RowNumbers (n : ℕ) (s : Standing) : Type 0 where
+pub record RowNumbers (n sum squares level t : ℕ) : Type 0 where
   pub most : n ≤ 32
-  pub added : s .sum ≤ 32 * highest
-  pub taken : n * s .level ≤ 32 * highest
-  pub product : n * s .squares ≤ 32 * (32 * (highest * highest))
-  pub square : s .sum * s .sum ≤ 32 * highest * (32 * highest)
+  pub added-most : sum ≤ 32 * highest
+  pub taken-most : n * level ≤ 32 * highest
+  pub deviation-most : t ≤ 4000000
+  pub spreads : SpreadRange n sum squares
 
-pub row-numbers : {n : ℕ} {s : Standing} → n ≤ 32 → Bounded n s → RowNumbers n s
-row-numbers {n} {s} l b =
-    let a : s .sum ≤ 32 * highest = omega (arith, b .sum-most, mul-le-mul-right highest l) in
-    let r : s .squares ≤ 32 * (highest * highest) = omega (arith, b .squares-most, mul-le-mul-right (highest * highest) l) in
+pub row-numbers : {plan : Plan} {n sum squares level t : ℕ} → InRow plan n sum squares level t → RowNumbers n sum squares level t
+row-numbers {plan} {n} {sum} {squares} h =
+    let b = h .bounded in
+    let l : n ≤ 32 = omega (arith, last-most plan, h .most) in
+    let r : squares ≤ 32 * (highest * highest) = omega (arith, b .squares-most, mul-le-mul-right (highest * highest) l) in
     record {
       most = l;
-      added = a;
-      taken = mul-le-mul l (b .log-most);
-      product = mul-le-mul l r;
-      square = mul-le-mul a a;
+      added-most = omega (arith, b .sum-most, mul-le-mul-right highest l);
+      taken-most = mul-le-mul l (b .level-most);
+      deviation-most = b .deviation-most;
+      spreads = record { product-most = mul-le-mul l r; spread = b .spread };
     }
-
-pub in-rows : {plan : Plan} {n : ℕ} {s : Standing} → InRows plan n s → RowNumbers n s
-in-rows {plan} {n} {s} h = row-numbers (omega (arith, last-most plan, h .most)) (h .bounded)
 
 -- ---- one more engine
 
@@ -75,24 +73,24 @@ cross (suc n) s q y h =
 spread-more : (n s q y : ℕ) → s * s ≤ n * q → (s + y) * (s + y) ≤ suc n * (q + y * y)
 spread-more n s q y h = omega (arith, cross n s q y h, h)
 
-pub bounded-later : {n k : ℕ} {s : Standing} → n ≤ k → Bounded n s → Bounded k s
-bounded-later {n} {k} {s} l b =
+pub bounded-later : {n k : ℕ} (s : Standing) → n ≤ k → Keeps n s → Keeps k s
+bounded-later s l b =
     record {
       sum-most = omega (arith, b .sum-most, mul-le-mul-right highest l);
       squares-most = omega (arith, b .squares-most, mul-le-mul-right (highest * highest) l);
       spread = omega (arith, b .spread, mul-le-mul-right (s .squares) l);
-      log-most = b .log-most;
+      level-most = b .level-most;
       deviation-most = b .deviation-most;
     }
 
-pub added-bounded : (plan : Plan) (n : ℕ) (s : Standing) (x : ℕ) → Bounded n s → Bounded (suc n) (added plan s x)
+pub added-bounded : (plan : Plan) (n : ℕ) (s : Standing) (x : ℕ) → Keeps n s → Keeps (suc n) (added plan s x)
 unfolding added
 added-bounded plan n s x b = cases (looksAt s)
   where
     y : ℕ
     y = score plan (s .limit) x
 
-    cases : (look : Bool) → Bounded (suc n) (cond look (record {
+    cases : (look : Bool) → Keeps (suc n) (cond look (record {
       limit = s .limit;
       level = s .level;
       deviation = s .deviation;
@@ -106,7 +104,7 @@ added-bounded plan n s x b = cases (looksAt s)
           sum-most = omega (arith, b .sum-most, most);
           squares-most = omega (arith, b .squares-most, mul-le-mul most most);
           spread = spread-more n (s .sum) (s .squares) y (b .spread);
-          log-most = b .log-most;
+          level-most = b .level-most;
           deviation-most = b .deviation-most;
         }
-    cases false = bounded-later (omega arith) b
+    cases false = bounded-later s (omega arith) b

@@ -68,7 +68,7 @@ pub record Adds (plan : Plan) (L t : ℕ) (xs : List ℕ) (s : Standing) : Type 
   pub sum : s .sum ≡ scores plan L xs
   pub squares : s .squares ≡ scoreSquares plan L xs
 
-pub row-is : (plan : Plan) (L t : ℕ) (xs : List ℕ) (s : Standing) → Adds plan L t xs s → rowFrom plan (length xs) s ≡ row (planIs plan) squarings (length xs) L t xs
+pub row-is : (plan : Plan) (L t : ℕ) (xs : List ℕ) (s : Standing) → Adds plan L t xs s → rowFrom plan (length xs) (s .sum) (s .squares) (s .level) (s .deviation) ≡ row (planIs plan) squarings (length xs) L t xs
 unfolding rowFrom
 row-is KnownDeviation L t xs s a =
     rw (a .sum, a .level, a .deviation, scores-logs KnownDeviation L refl xs, level-log KnownDeviation L refl) (sym (known-row-is squarings L t xs))

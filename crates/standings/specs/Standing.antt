@@ -62,24 +62,24 @@ added plan s x =
     })
     s
 
--- D and W of n engines, from the sums
-abbrev pub sumD : (n : ℕ) → Standing → ℤ
-sumD n s = pos (s .sum) -ℤ pos (n * s .level)
+-- D and W of n engines, from the sums and the limit's level
+abbrev pub sumD : (n sum level : ℕ) → ℤ
+sumD n sum level = pos sum -ℤ pos (n * level)
 
-abbrev pub spreadW : (n : ℕ) → Standing → ℤ
-spreadW n s = pos (n * s .squares - s .sum * s .sum)
+abbrev pub spreadW : (n sum squares : ℕ) → ℤ
+spreadW n sum squares = pos (n * squares - sum * sum)
 
 -- what row n of the plan says
-unfoldable pub rowFrom : Plan → (n : ℕ) → Standing → rules.Row
-rowFrom KnownDeviation n s =
-    rules.decide (rules.knownPasses squarings n (sumD n s) (s .deviation)) (eqb n 32) (rules.knownFails squarings n (sumD n s) (s .deviation))
-rowFrom UnknownDeviation n s =
-    rules.decide (rules.rootPasses (rules.unknownNumbers n .A) (sumD n s) (spreadW n s)) (eqb n 32)
-    (rules.rootFails (rules.unknownNumbers n .B) (sumD n s) (spreadW n s))
-rowFrom Attributes n s = rules.decide (rules.attributesPasses n (s .sum)) (eqb n 19) (rules.attributesFails n (s .sum))
-rowFrom InService n s =
-    rules.decide (rules.rootPasses (rules.inServiceNumbers n .A) (sumD n s) (spreadW n s)) (eqb n 15)
-    (rules.rootFails (rules.inServiceNumbers n .B) (sumD n s) (spreadW n s))
+unfoldable pub rowFrom : Plan → (n sum squares level t : ℕ) → rules.Row
+rowFrom KnownDeviation n sum squares level t =
+    rules.decide (rules.knownPasses squarings n (sumD n sum level) t) (eqb n 32) (rules.knownFails squarings n (sumD n sum level) t)
+rowFrom UnknownDeviation n sum squares level t =
+    rules.decide (rules.rootPasses (rules.unknownNumbers n .A) (sumD n sum level) (spreadW n sum squares)) (eqb n 32)
+    (rules.rootFails (rules.unknownNumbers n .B) (sumD n sum level) (spreadW n sum squares))
+rowFrom Attributes n sum squares level t = rules.decide (rules.attributesPasses n sum) (eqb n 19) (rules.attributesFails n sum)
+rowFrom InService n sum squares level t =
+    rules.decide (rules.rootPasses (rules.inServiceNumbers n .A) (sumD n sum level) (spreadW n sum squares)) (eqb n 15)
+    (rules.rootFails (rules.inServiceNumbers n .B) (sumD n sum level) (spreadW n sum squares))
 
 -- the program's decision of a row
 abbrev pub decisionBy : (n : ℕ) → rules.Row → Decision
@@ -87,9 +87,9 @@ decisionBy n rules.pass = Passed n
 decisionBy n rules.fail = Failed n
 decisionBy n rules.undecided = Open
 
--- after row n
-unfoldable pub looked : Plan → (n : ℕ) → Standing → Standing
-looked plan n s =
+-- after row n, which says r
+unfoldable pub decidedBy : (n : ℕ) → rules.Row → Standing → Standing
+decidedBy n r s =
     cond (looksAt s)
     (record {
       limit = s .limit;
@@ -97,9 +97,12 @@ looked plan n s =
       deviation = s .deviation;
       sum = s .sum;
       squares = s .squares;
-      decision = decisionBy n (rowFrom plan n s);
+      decision = decisionBy n r;
     })
     s
+
+abbrev pub looked : Plan → (n : ℕ) → Standing → Standing
+looked plan n s = decidedBy n (rowFrom plan n (s .sum) (s .squares) (s .level) (s .deviation)) s
 
 -- declared, and not passed
 unfoldable pub waitsFor : Standing → Bool
@@ -112,15 +115,23 @@ abbrev pub highest : ℕ
 highest = 24 * 2 ^ 20
 
 -- what the numbers keep to after n engines
-pub record Bounded (n : ℕ) (s : Standing) : Type 0 where
-  pub sum-most : s .sum ≤ n * highest
-  pub squares-most : s .squares ≤ n * (highest * highest)
-  pub spread : s .sum * s .sum ≤ n * s .squares
-  pub log-most : s .level ≤ highest
-  pub deviation-most : s .deviation ≤ 4000000
+pub record Bounded (n sum squares level t : ℕ) : Type 0 where
+  pub sum-most : sum ≤ n * highest
+  pub squares-most : squares ≤ n * (highest * highest)
+  pub spread : sum * sum ≤ n * squares
+  pub level-most : level ≤ highest
+  pub deviation-most : t ≤ 4000000
 
--- and where row n of the plan looks at the pollutant
-pub record InRows (plan : Plan) (n : ℕ) (s : Standing) : Type 0 where
-  pub bounded : Bounded n s
+abbrev pub Keeps : (n : ℕ) → Standing → Type 0
+Keeps n s = Bounded n (s .sum) (s .squares) (s .level) (s .deviation)
+
+-- and in row n of the plan
+pub record InRow (plan : Plan) (n sum squares level t : ℕ) : Type 0 where
+  pub bounded : Bounded n sum squares level t
   pub least : 3 ≤ n
   pub most : n ≤ rules.lastRow (planIs plan)
+
+-- the numbers of W
+pub record SpreadRange (n sum squares : ℕ) : Type 0 where
+  pub product-most : n * squares ≤ 32 * (32 * (highest * highest))
+  pub spread : sum * sum ≤ n * squares

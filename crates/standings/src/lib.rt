@@ -1,11 +1,13 @@
 // Where a pollutant stands in a series: its limit and deviation, what its measurements have added up to, and its decision so far.
 //
-// The functions are open to the crate `series` alone, which calls them with numbers that it has bounded (specs/Standing, `Bounded`).
+// The functions are open to the crate `series` alone, which calls them with numbers that it has bounded (specs/Standing, `Keeps` and `InRow`).
 ghost use mathlib.Core.Path.{_≡_};
-ghost use Prim.Native.Nat.{_-_, _*_, _≤_};
+ghost use mathlib.Core.Bool.{cond};
+ghost use Prim.Native.Nat.{_-_, _*_};
+ghost use Rattle.rules.specs.Plans.{undecided};
 ghost use Rattle.rules.specs.Series.{hasFailed, hasPassed};
 ghost use Rattle.plans.specs.Row.{rowIs};
-ghost use Rattle.standings.specs.Standing.{decisionIs, isUndecided, looksAt, takesLogarithms, score, levelOf, started, added, rowFrom, decisionBy, looked, waitsFor, Bounded, InRows};
+ghost use Rattle.standings.specs.Standing.{decisionIs, isUndecided, looksAt, takesLogarithms, score, levelOf, started, added, rowFrom, decisionBy, decidedBy, waitsFor, Keeps, InRow, SpreadRange};
 use logarithm::log2;
 use plan::Plan;
 use plans::Row;
@@ -86,6 +88,48 @@ fn decided(n: u8, row: Row) -> Decision
     }
 }
 
+// W of n engines: it does not change where every logarithm is moved by the limit's.
+fn spread(n: u64, sum: u64, squares: u64) -> u64
+    requires { ⌜ SpreadRange n sum squares ⌝ }
+    ensures { λ r. ⌜ r ≡ n * squares - sum * sum ⌝ }
+{
+    n * squares - sum * sum
+}
+
+// What row n of the plan says of a pollutant. The numbers come one by one, in registers: a standing would go through memory.
+fn statistics(plan: Plan, n: u64, sum: u64, squares: u64, level: u32, deviation: u32) -> Row
+    requires { ⌜ InRow plan n sum squares level deviation ⌝ }
+    ensures { λ r. ⌜ rowIs r ≡ rowFrom plan n sum squares level deviation ⌝ }
+{
+    let taken = n * level as u64;
+    match plan {
+        Plan::KnownDeviation => plans::known_row(n, sum, taken, deviation as u64),
+        Plan::UnknownDeviation => plans::unknown_row(n, sum, taken, spread(n, sum, squares)),
+        Plan::Attributes => plans::attributes_row(n, sum),
+        Plan::InService => plans::in_service_row(n, sum, taken, spread(n, sum, squares)),
+    }
+}
+
+// The same where the row looks at the pollutant.
+pub fn row(
+    looks: bool,
+    plan: Plan,
+    n: u64,
+    sum: u64,
+    squares: u64,
+    level: u32,
+    deviation: u32,
+) -> Row
+    requires { ⌜ InRow plan n sum squares level deviation ⌝ }
+    ensures { λ r. ⌜ rowIs r ≡ cond looks (rowFrom plan n sum squares level deviation) undecided ⌝ }
+{
+    if looks {
+        statistics(plan, n, sum, squares, level, deviation)
+    } else {
+        Row::Open
+    }
+}
+
 impl Standing {
     // Before the first engine.
     pub fn start(plan: Plan, limit: u32, deviation: u32) -> Standing
@@ -102,7 +146,7 @@ impl Standing {
     }
 
     // Whether a row looks at the pollutant: "A pollutant that has passed is not looked at again."
-    fn looks(self) -> bool
+    pub fn looks(self) -> bool
         ensures { λ b. ⌜ b ≡ looksAt self ⌝ }
     {
         let decision = self.decision;
@@ -111,7 +155,7 @@ impl Standing {
 
     // With one more measurement, of which nothing is computed where no row will look at the pollutant.
     pub fn with(self, plan: Plan, x: u32) -> Standing
-        requires { ⌜ Bounded 31 self ⌝ }
+        requires { ⌜ Keeps 31 self ⌝ }
         ensures { λ s. ⌜ s ≡ added plan self x ⌝ }
     {
         if self.looks() {
@@ -130,35 +174,12 @@ impl Standing {
         }
     }
 
-    // W of n engines: it does not change where every logarithm is moved by the limit's.
-    fn spread(self, n: u64) -> u64
-        requires { ⌜ Bounded n self ⌝ ∗ ⌜ n ≤ 32 ⌝ }
-        ensures { λ r. ⌜ r ≡ n * self .squares - self .sum * self .sum ⌝ }
-    {
-        n * self.squares - self.sum * self.sum
-    }
-
-    // What row n of the plan says.
-    fn row(self, plan: Plan, n: u64) -> Row
-        requires { ⌜ InRows plan n self ⌝ }
-        ensures { λ r. ⌜ rowIs r ≡ rowFrom plan n self ⌝ }
-    {
-        let taken = n * self.level as u64;
-        match plan {
-            Plan::KnownDeviation => plans::known_row(n, self.sum, taken, self.deviation as u64),
-            Plan::UnknownDeviation => plans::unknown_row(n, self.sum, taken, self.spread(n)),
-            Plan::Attributes => plans::attributes_row(n, self.sum),
-            Plan::InService => plans::in_service_row(n, self.sum, taken, self.spread(n)),
-        }
-    }
-
-    // After row n of the plan.
-    pub fn at_row(self, plan: Plan, n: u64) -> Standing
-        requires { ⌜ InRows plan n self ⌝ }
-        ensures { λ s. ⌜ s ≡ looked plan n self ⌝ }
+    // After row n, which says row.
+    pub fn decide(self, n: u8, row: Row) -> Standing
+        ensures { λ s. ⌜ s ≡ decidedBy n (rowIs row) self ⌝ }
     {
         if self.looks() {
-            let decision = decided(n as u8, self.row(plan, n));
+            let decision = decided(n, row);
             Standing {
                 limit: self.limit,
                 level: self.level,

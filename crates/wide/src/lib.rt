@@ -2,6 +2,7 @@
 ghost use mathlib.Core.Path.{_≡_};
 ghost use Prim.Native.Nat.{_+_, _*_, _^_};
 ghost use lib.Dec.{ltb};
+use std::num::wrapping_add_u64;
 
 // hi * 2^64 + lo
 pub struct Wide {
@@ -9,7 +10,8 @@ pub struct Wide {
     pub lo: u64,
 }
 
-// The whole product, column by column in base 2^32.
+// The whole product: the upper word column by column in base 2^32, the lower word modulo 2^64.
+// In this form the compiler makes one multiplication of two words of it.
 pub fn product(a: u64, b: u64) -> Wide
     ensures { λ r. ⌜ r .hi * 2 ^ 64 + r .lo ≡ a * b ⌝ }
 {
@@ -21,7 +23,8 @@ pub fn product(a: u64, b: u64) -> Wide
     let second = a1 * b0 + first / 0x1_0000_0000;
     let third = second % 0x1_0000_0000 + a0 * b1;
     let hi = a1 * b1 + second / 0x1_0000_0000 + third / 0x1_0000_0000;
-    let lo = third % 0x1_0000_0000 * 0x1_0000_0000 + first % 0x1_0000_0000;
+    let crossed = wrapping_add_u64(a1 * b0, a0 * b1);
+    let lo = wrapping_add_u64(crossed << 32, first);
     Wide { hi: hi, lo: lo }
 }
 

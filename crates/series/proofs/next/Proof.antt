@@ -20,11 +20,11 @@ next-spec =
     (λ c. search needs)
     (λ c κs. search needs)
     (λ c. search needs)
-    (λ c κs. let s = c .before .before .before .before in all-later (omega (arith, s .pre .row, last-most (s .args .plan))) (s .pre .bounded))
+    (λ c κs. let s = c .before .before .before .before in all-later (s .args .progress .standings) (omega (arith, s .pre .row, last-most (s .args .plan))) (s .pre .keeps))
     (λ c κs. search needs)
     (λ c κs. search needs)
     (λ c κs. let s = c .before .before .before .before .before .before .before in
-    (s .pre .row, rw (c .before .before .with .ensures) (all-added (s .args .plan) (s .args .n) (s .args .progress .standings) _ (s .pre .bounded))))
+    (s .pre .row, rw (c .before .before .with .ensures) (all-added (s .args .plan) (s .args .n) (s .args .progress .standings) _ (s .pre .keeps))))
     (λ c.
     let w = c .before .before .before in
     let a = c .before .before .before .before .before .before .before .before .args in

@@ -2,8 +2,6 @@
 use mathlib.Core.Path.{sym, ap, _∙_}
 use native.Mathlib.Omega.{arith}
 use Rattle.standings.proofs.Ranges.{last-most}
-use Rattle.series.specs.declared.Judgement.{Judgement}
-use Rattle.series.specs.declared.Turn.the-variants.{Decided}
 use Rattle.series.specs.declared.Standings.{Standings}
 use Rattle.series.specs.Progress.{settledBy}
 use Rattle.series.proofs.Bounds.{all-in-rows, statistics-late}
@@ -19,10 +17,8 @@ row-spec =
     (λ c. search needs)
     (λ c. search needs)
     (λ c. let s = c .before .before .before in omega (arith, s .pre .0, last-most (s .args .plan)))
-    (λ c κs. search needs)
     (λ c. search needs)
     (λ c. let s = c .before .before .before in omega (arith, s .pre .0, last-most (s .args .plan)))
-    (λ c κs. search needs)
     (λ c. search needs)
     (λ c. search needs)
     (λ c. let s = c .before .before .before in omega (arith, s .pre .0, last-most (s .args .plan)))
@@ -30,8 +26,8 @@ row-spec =
     all-in-rows (s .pre .1) (statistics-late _ _ (sym (c .before .before .before-row .ensures) ∙ c .enum-told5 .given .1)) (s .pre .0))
     (λ c κs. search needs)
     (λ c. rw (sym (c .before .before .before-row .ensures) ∙ c .enum-told .given .1))
-    (λ c. rw (sym (c .before .before .before .before-row .ensures) ∙ c .before .enum-told2 .given .1) (ap (λ (j : Judgement). Decided j) (c .judged .ensures)))
-    (λ c. rw (sym (c .before .before .before .before-row .ensures) ∙ c .before .enum-told3 .given .1) (ap (λ (j : Judgement). Decided j) (c .judged2 .ensures)))
+    (λ c. rw (sym (c .before .before .before-row .ensures) ∙ c .enum-told2 .given .1))
+    (λ c. rw (sym (c .before .before .before-row .ensures) ∙ c .enum-told3 .given .1))
     (λ c. rw (sym (c .before .before .before-row .ensures) ∙ c .enum-told4 .given .1))
     (λ c.
     let a = c .before .before .before .before .before .args in

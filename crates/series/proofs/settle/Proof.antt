@@ -11,9 +11,7 @@ settle-spec =
     tie.close
     (tie.spec
     (λ c κs. search needs)
-    (λ c κs. search needs)
     (λ c. search chain depth 9)
     (λ c κs. search needs)
     (λ c. search chain depth 9)
-    (λ c κs. search needs)
     (λ c. search chain depth 9))

@@ -46,11 +46,14 @@ walk-spec =
           (sym (c .before .before .before .next .ensures) ∙ c .before .turn .given .1),
     ))
     (λ c. search needs)
+    (λ c κs. search needs)
     (λ c.
-    let i = c .before .before .before .before in
+    let t = c .before .before in
+    let i = t .before .before .before .before in
     let l = i .before in
-    next-decided (entry (l .before) .pre) _ (l .before .before .before .before .before .before .of .ensures) _ _ (i .loop-test .taken) (l .loop .inv .1)
-    (sym (c .before .before .before .next .ensures) ∙ c .before .turn2 .given .1))
+    rw (c .judged .ensures)
+    (next-decided (entry (l .before) .pre) _ (l .before .before .before .before .before .before .of .ensures) _ _ (i .loop-test .taken) (l .loop .inv .1)
+    (sym (t .before .before .before .next .ensures) ∙ t .before .turn2 .given .1)))
     (λ c. omega (arith, few (entry (c .before .before .before .before) .pre)))
     (λ c κs. search needs)
     (λ c.

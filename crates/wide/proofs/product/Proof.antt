@@ -53,6 +53,19 @@ whole a b =
     (sym (div-add-mod' (a % H * (b % H)) H)) (sym (div-add-mod' (second a b) H)) (sym (div-add-mod' (third a b) H))
     ∙ ap₂ _*_ (div-add-mod' a H) (div-add-mod' b H)
 
+-- the lower word modulo 2 ^ 64, as the program makes it: the crossed products, moved up, and the first
+split : (a b : ℕ) → a * b ≡ a / H * (b / H) * 2 ^ 64 + ((a / H * (b % H) + a % H * (b / H)) * H + a % H * (b % H))
+split a b =
+    let e : a * b ≡ (a / H * H + a % H) * (b / H * H + b % H) = sym (ap₂ _*_ (div-add-mod' a H) (div-add-mod' b H)) in
+    e ∙ omega arith
+
+modulo : (u l p c f : ℕ) → u * 2 ^ 64 + l ≡ p * 2 ^ 64 + (c * 2 ^ 32 + f) → l < 2 ^ 64 → (c % 2 ^ 64 * 2 ^ 32 % 2 ^ 64 + f) % 2 ^ 64 ≡ l
+modulo u l p c f e h = omega arith
+
+lower-is : (a b : ℕ) → ((a / H * (b % H) + a % H * (b / H)) % 2 ^ 64 * H % 2 ^ 64 + a % H * (b % H)) % 2 ^ 64 ≡ lower a b
+lower-is a b =
+    modulo (upper a b) (lower a b) (a / H * (b / H)) (a / H * (b % H) + a % H * (b / H)) (a % H * (b % H)) (whole a b ∙ split a b) (omega arith)
+
 -- the upper word fits, since the product is below 2 ^ 128
 upper-fits : tie.Need-add-hi-2
 upper-fits c =
@@ -72,6 +85,10 @@ product-spec =
     (λ c. omega (arith, at c))
     (λ c. fits-le (le-add-right _ (third (c .args .a) (c .args .b) / H)) (upper-fits c))
     upper-fits
-    (λ c. search needs)
-    (λ c. search needs)
-    (λ c. whole (c .args .a) (c .args .b)))
+    (λ c. omega (arith, at c))
+    (λ c. omega (arith, at c))
+    (λ c κs. search needs)
+    (λ c κs. search needs)
+    (λ c.
+    let a = c .before .before .args in
+    rw (c .wrapping-add-u642 .ensures, c .before .wrapping-add-u64 .ensures, lower-is (a .a) (a .b)) (whole (a .a) (a .b))))

@@ -1,4 +1,5 @@
 -- Each branch is one of the definition's.
+use Rattle.arithmetic.proofs.Chain.{chain, skip-is}
 use Rattle.faults.specs.Faults.{badCauseBy}
 use borrow.Author.Needs.{needs}
 use Rattle.faults.proofs.fault.bad_cause.Statement.{statement}
@@ -11,6 +12,5 @@ bad-cause-spec =
     (tie.spec
     (λ c κs. search needs)
     (λ c κs. search needs)
-    (λ c κs. search needs)
-    (λ c. rw (← c .before .before .is-gross .ensures, c .before .if1 .taken) (cc))
-    (λ c. rw (← c .before .is-gross .ensures, c .if1 .left) (cc)))
+    (λ c. search chain depth 9)
+    (λ c. skip-is _ _ _ (c .before .if1 .left) (cc)))

@@ -1,5 +1,4 @@
--- Within the record the byte there, and past it 0.
-use native.Mathlib.Omega.{arith}
+-- Past the record's end, 0.
 use mathlib.Core.Path.{sym}
 use lib.ListN.{List·getD-eq-default}
 use borrow.Author.Needs.{needs}
@@ -10,7 +9,6 @@ pub byte-at-spec : {M : Type 1} → statement M
 byte-at-spec =
     tie.close
     (tie.spec
+    (λ c κs. search needs)
     (λ c. search needs)
-    (λ c. omega (arith, c .shared-slice-known .given (c .before .before .args .i)))
-    (λ c. let h = c .shared-slice-known .given (c .before .before .args .i) in search needs)
-    (λ c. (sym (List·getD-eq-default (c .before .args .r .now) 0 (c .if1 .left)), search needs)))
+    (λ c. (sym (List·getD-eq-default (c .before .before .args .r .now) 0 (c .if1 .left)), search needs)))

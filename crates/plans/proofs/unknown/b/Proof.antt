@@ -1,28 +1,17 @@
--- `unknown::b` meets its contract: the array is the table's second column, which antt computes.
-use mathlib.Core.Path.{refl, ap, _∙_}
-use mathlib.Core.List.{List, map}
-use Prim.Native.Nat.{ℕ, _-_}
+-- `unknown::b` meets its contract: the array is the table's second column.
 use native.Mathlib.Omega.{arith}
-use lib.IntN.{pos, natAbs}
 use borrow.Author.Needs.{needs}
-use Rattle.arithmetic.proofs.Tables.{column, within}
-use Rattle.rules.specs.Plans.{Numbers, −_/_}
-use Rattle.plans.proofs.UnknownTable.{table, table-is}
+use Rattle.plans.proofs.UnknownTable.{fails, b-is}
 use Rattle.plans.proofs.unknown.b.Statement.{statement}
 use Rattle.plans.proofs.unknown.b.Tie as tie
 
--- the program's array, as antt computes it from the definition
-values : List ℕ
-values = map (λ (r : Numbers). natAbs (r .B)) table
-
-returns : tie.Need-returns
-unfolding values
-returns c =
-    let n = c .args .n in (
-      column (λ (x : ℕ). pos x) (λ (r : Numbers). r .B) values table 0 (− 0 / 0) refl refl (n - 3)
-          ∙ ap (λ (r : Numbers). r .B) (table-is n (c .pre)),
-      within 0 1664743 values tt (n - 3) (omega arith) .1,
-    )
-
 pub b-spec : {M : Type 1} → statement M
-b-spec = tie.close (tie.spec (λ c. search needs) (λ c. search needs) (λ c. search needs) returns)
+unfolding fails
+b-spec =
+    tie.close
+    (tie.spec
+    (λ c. search needs)
+    (λ c. search needs)
+    (λ c. search needs)
+    (λ c. omega (arith, b-is (c .args .n) (c .pre)))
+    (λ c. b-is (c .args .n) (c .pre)))

@@ -1,0 +1,106 @@
+-- Append: a record is judged by what the sheet before it says, and written behind it.
+use Prim.Native.Nat.{ℕ, _+_, _-_, _/_, _≤_, _<_}
+use native.Mathlib.Nat.{le-of-eq}
+use native.Mathlib.Omega.{arith}
+use mathlib.Core.Path.{_≡_, refl, sym, ap, _∙_}
+use mathlib.Core.Bool.{Bool, true, false, not, cond}
+use mathlib.Core.List.{List, _++_, append-nil}
+use lib.Dec.{ltb, eqb}
+use lib.ListN.{length, take, drop, length-drop, drop-of-length-le}
+use lib.Seq.{take-all, take-length, drop-drop}
+use borrow.Author.Tests.{lt-ltb, le-ltb, ltb-false, eqb-true, eq-eqb, ne-eqb, not-false}
+use Rattle.rules.specs.Sheet.{Record, pollutants, records}
+use Rattle.rules.specs.Refusals.{Check, accepted, refused, check}
+use Rattle.rules.specs.Operations.{noRoom, joined, append, appended}
+use Rattle.arithmetic.proofs.Booleans.{or-false}
+use Rattle.faults.specs.declared.Sheet.{Sheet}
+use Rattle.faults.specs.State.{nothing}
+use Rattle.faults.specs.Faults.{faultBy}
+use Rattle.sheet.specs.declared.Refusal.{Refusal}
+use Rattle.sheet.specs.declared.Checked.{Checked}
+use Rattle.sheet.specs.declared.Checked.the-variants as checked
+use Rattle.sheet.specs.Check.{summaryFrom, summary, checkedBy, checkedOf}
+use Rattle.sheet.proofs.Laws.{accepted-sheet, no-records, check-after}
+use Rattle.operations.specs.Outcomes.{checkIs, soFar}
+
+-- ---- the sheet before the record
+
+by-check : (c : Check) (rs : List Record) → checkIs (checkedBy c rs) ≡ c
+by-check accepted rs = refl
+by-check (refused number place) rs = refl
+
+-- what document 01 asks of the sheet before the record
+abbrev before : List ℕ → Check
+before s = cond (eqb (length s) 0) accepted (check pollutants s)
+
+so-far-check : (s : List ℕ) → checkIs (soFar s) ≡ before s
+unfolding soFar checkedOf
+so-far-check s = cases (eqb (length s) 0)
+  where
+    cases : (t : Bool)
+        → checkIs (cond t (checked.Sheet nothing) (checkedBy (check pollutants s) (records pollutants s))) ≡ cond t accepted (check pollutants s)
+    cases true = refl
+    cases false = by-check (check pollutants s) (records pollutants s)
+
+so-far-sheet : (s : List ℕ) {t : Sheet} → soFar s ≡ checked.Sheet t → t ≡ summary (records pollutants s)
+unfolding soFar summaryFrom
+so-far-sheet s {t} e = cases (eqb (length s) 0) refl e
+  where
+    cases : (z : Bool) → eqb (length s) 0 ≡ z
+        → cond z (checked.Sheet nothing) (checkedOf s) ≡ checked.Sheet t → t ≡ summary (records pollutants s)
+    cases true q h = rw (no-records s (eqb-true (length s) 0 q)) (cc)
+    cases false q h = accepted-sheet s h .1
+
+module _ (s r : List ℕ) {c : Checked} (e : c ≡ soFar s) where
+  pub joined-refused : {f : Refusal} → c ≡ checked.Refused f → checkIs c ≡ joined pollutants s r
+  unfolding joined
+  joined-refused {f} p =
+      let q : before s ≡ refused (f .number) (f .place) = sym (so-far-check s) ∙ ap checkIs (sym e ∙ p) in
+      rw (p, q) refl
+
+  module _ {t : Sheet} (p : c ≡ checked.Sheet t) (l : length r ≡ 20) where
+    after : joined pollutants s r
+        ≡ cond (ltb 720 (length s)) (refused 1 0) (cond (eqb (faultBy t r) 0) accepted (refused (faultBy t r) (length s / 20)))
+    unfolding joined
+    after =
+        let q : before s ≡ accepted = sym (so-far-check s) ∙ ap checkIs (sym e ∙ p) in
+        rw (q, so-far-sheet s (sym e ∙ p)) (check-after s q r l)
+
+    pub joined-long : 720 < length s → refused 1 0 ≡ joined pollutants s r
+    joined-long h = sym (rw (lt-ltb 720 (length s) h) at after)
+
+    module _ (h : length s ≤ 720) {n : ℕ} (f : n ≡ faultBy t r) where
+      pub joined-faulty : (n ≡ 0 → ⊥) → refused n (length s / 20) ≡ joined pollutants s r
+      joined-faulty d = sym (rw (le-ltb 720 (length s) h, ← f, ne-eqb n 0 d) at after)
+
+      pub joined-fine : n ≡ 0 → accepted ≡ joined pollutants s r
+      joined-fine z = sym (rw (le-ltb 720 (length s) h, ← f, eq-eqb n 0 z) at after)
+
+-- ---- the buffer
+
+pub record-good : (r : List ℕ) {x : Bool} → x ≡ not (eqb (length r) 20) → x ≡ false → length r ≡ 20
+record-good r e f = eqb-true (length r) 20 (not-false (eqb (length r) 20) (sym e ∙ f))
+
+pub room-good : (b : List ℕ) (u : ℕ) {x : Bool} → x ≡ noRoom pollutants b u → x ≡ false → u + 20 ≤ length b
+unfolding noRoom
+room-good b u e f =
+    let p = or-false (ltb (length (drop u b)) 20) (ltb (length b) u) (sym e ∙ f) in
+    let q = ltb-false (length (drop u b)) 20 (p .0) in
+    let h = ltb-false (length b) u (p .1) in
+    omega (arith, length-drop u b)
+
+module _ (b : List ℕ) (u : ℕ) (r : List ℕ) {a : Check} (e : a ≡ append pollutants b u r) where
+  pub kept : (n p : ℕ) → a ≡ refused n p → (a ≡ append pollutants b u r) × (b ≡ appended pollutants b u r)
+  unfolding appended
+  kept n p q = (e, rw (sym e ∙ q) refl)
+
+  -- the record is copied into the part from u on
+  pub wrote : a ≡ accepted → length r ≡ 20 → {y : List ℕ}
+      → y ≡ take (length r) r ++ drop (length r) (take (length b - u) (drop u b))
+      → (accepted ≡ append pollutants b u r) × (take u b ++ (y ++ drop (length b - u) (drop u b)) ≡ appended pollutants b u r)
+  unfolding appended
+  wrote q l p =
+      let d : length (drop u b) ≤ length b - u = le-of-eq (length-drop u b) in (
+        sym q ∙ e,
+        rw (sym e ∙ q, p, take-all (length b - u) (drop u b) d, drop-of-length-le (drop u b) d, append-nil, take-length r, l, drop-drop 20 u b) refl,
+      )

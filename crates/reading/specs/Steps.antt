@@ -1,0 +1,42 @@
+-- What stands at a number of a sheet under reading, by document 01's "The sheet", whatever the bytes are: no check is taken to have been made.
+use Prim.Native.Nat.{ℕ, _+_, _-_}
+use mathlib.Core.Bool.{cond}
+use mathlib.Core.List.{List, []}
+use lib.Dec.{ltb, eqb}
+use lib.ListN.{length, getD}
+use denote.Ref.{RefT, now}
+use Rattle.rules.specs.Sheet.{Record, pollutants, records, kind, number, plan, limit, deviation, cause, measurement}
+use Rattle.reading.specs.declared.SheetReader.{SheetReader}
+use Rattle.reading.specs.declared.Step.{Step}
+use Rattle.reading.specs.declared.Step.the-variants.{Pollutant, Engine, Stop, Other, End}
+
+-- "byte 1 pollutant number ..; byte 2 plan ..; bytes 4-7 limit L; bytes 8-11 deviation t"
+unfoldable pub pollutantStep : Record → Step
+pollutantStep r = Pollutant (number r) (plan r) (limit r) (deviation r)
+
+-- "bytes 2-3 cause; bytes 4-19 four u32 measurements, pollutant 1 first"
+unfoldable pub engineStep : Record → Step
+engineStep r = Engine (cause r) (record { co = measurement r 1; hc = measurement r 2; nox = measurement r 3; pm = measurement r 4 })
+
+-- "Byte 0 is the kind"
+unfoldable pub stepOf : Record → Step
+stepOf r = cond (eqb (kind r) 1) (pollutantStep r) (cond (eqb (kind r) 2) (engineStep r) (cond (eqb (kind r) 3) Stop (Other (kind r))))
+
+-- record k of the whole records of the bytes b, "counted from 0"
+unfoldable pub stepAt : (b : List ℕ) (k : ℕ) → Step
+stepAt b k = cond (ltb k (length (records pollutants b))) (stepOf (getD (records pollutants b) k [])) End
+
+-- the whole records from record k on
+unfoldable pub leftAt : (b : List ℕ) (k : ℕ) → ℕ
+leftAt b k = length (records pollutants b) - k
+
+-- the number after k: no number comes after the end's
+unfoldable pub nextAt : (b : List ℕ) (k : ℕ) → ℕ
+nextAt b k = cond (ltb k (length (records pollutants b))) (k + 1) k
+
+-- "the lent bytes and the number of the next record": at the start, and behind the record that a reader stands at
+abbrev pub started : RefT (List ℕ) → SheetReader
+started bytes = record { bytes = bytes; next = 0 }
+
+abbrev pub advanced : SheetReader → SheetReader
+advanced r = record { bytes = r .bytes; next = nextAt (now (r .bytes)) (r .next) }

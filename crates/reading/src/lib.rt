@@ -1,0 +1,148 @@
+// "A sheet under reading is the lent bytes and the number of the next record": a struct over the slice, and few functions over it.
+// Each takes the struct apart and leaves the work to a function on the slice and the number.
+ghost use mathlib.Core.Path.{_≡_};
+ghost use Rattle.reading.specs.Steps.{pollutantStep, engineStep, stepOf, stepAt, leftAt, nextAt, started, advanced};
+use faults::Quantities;
+use faults::Sheet;
+use faults::field::cause_of;
+use faults::field::deviation_of;
+use faults::field::kind_of;
+use faults::field::limit_of;
+use faults::field::measurement_of;
+use faults::field::number_of;
+use faults::field::plan_of;
+use faults::field::record_at;
+
+// What stands at a number: a record of one of the three kinds, one of a kind that there is not, or the end of the whole records.
+pub enum Step {
+    Pollutant {
+        number: u32,
+        plan: u32,
+        limit: u32,
+        deviation: u32,
+    },
+    Engine {
+        cause: u32,
+        measurements: Quantities,
+    },
+    Stop,
+    Other {
+        kind: u32,
+    },
+    End,
+}
+
+fn pollutant_step(r: &[u8]) -> Step
+    ensures { λ s. ⌜ s ≡ pollutantStep (now (r .entry)) ⌝ }
+{
+    Step::Pollutant {
+        number: number_of(r),
+        plan: plan_of(r),
+        limit: limit_of(r),
+        deviation: deviation_of(r),
+    }
+}
+
+fn engine_step(r: &[u8]) -> Step
+    ensures { λ s. ⌜ s ≡ engineStep (now (r .entry)) ⌝ }
+{
+    let measurements = Quantities {
+        co: measurement_of(r, 1),
+        hc: measurement_of(r, 2),
+        nox: measurement_of(r, 3),
+        pm: measurement_of(r, 4),
+    };
+    Step::Engine {
+        cause: cause_of(r),
+        measurements,
+    }
+}
+
+fn step_of(r: &[u8]) -> Step
+    ensures { λ s. ⌜ s ≡ stepOf (now (r .entry)) ⌝ }
+{
+    let kind = kind_of(r);
+    if kind == 1 {
+        pollutant_step(r)
+    } else if kind == 2 {
+        engine_step(r)
+    } else if kind == 3 {
+        Step::Stop
+    } else {
+        Step::Other { kind }
+    }
+}
+
+// A record that is not whole is the end.
+pub fn step_at(bytes: &[u8], at: usize) -> Step
+    ensures { λ s. ⌜ s ≡ stepAt (now (bytes .entry)) at ⌝ }
+{
+    if at < bytes.len() / Sheet::RECORD {
+        step_of(record_at(bytes, at))
+    } else {
+        Step::End
+    }
+}
+
+pub fn left_at(bytes: &[u8], at: usize) -> usize
+    ensures { λ n. ⌜ n ≡ leftAt (now (bytes .entry)) at ⌝ }
+{
+    let n = bytes.len() / Sheet::RECORD;
+    if at < n { n - at } else { 0 }
+}
+
+// The end stays the end, so that no number is too large to have one after it.
+pub fn next_at(bytes: &[u8], at: usize) -> usize
+    ensures { λ n. ⌜ n ≡ nextAt (now (bytes .entry)) at ⌝ }
+{
+    if at < bytes.len() / Sheet::RECORD {
+        at + 1
+    } else {
+        at
+    }
+}
+
+pub struct SheetReader<'a> {
+    pub bytes: &'a [u8],
+    pub next: usize,
+}
+
+impl<'a> SheetReader<'a> {
+    pub fn start(bytes: &'a [u8]) -> SheetReader<'a>
+        ensures { λ r. ⌜ r ≡ started (bytes .entry) ⌝ }
+    {
+        SheetReader { bytes, next: 0 }
+    }
+
+    // What stands at the next number.
+    pub fn read(self) -> Step
+        ensures { λ s. ⌜ s ≡ stepAt (now (self .entry .bytes)) (self .entry .next) ⌝ }
+    {
+        step_at(self.bytes, self.next)
+    }
+
+    // The reader behind that.
+    pub fn advance(self) -> SheetReader<'a>
+        ensures { λ r. ⌜ r ≡ advanced (self .entry) ⌝ }
+    {
+        let next = next_at(self.bytes, self.next);
+        SheetReader {
+            bytes: self.bytes,
+            next,
+        }
+    }
+
+    // How many records are left to read.
+    pub fn left(self) -> usize
+        ensures { λ n. ⌜ n ≡ leftAt (now (self .entry .bytes)) (self .entry .next) ⌝ }
+    {
+        left_at(self.bytes, self.next)
+    }
+}
+
+// What the sheet begins with. Its parameters are plain, so whoever calls it needs no walk of a reader.
+pub fn first(bytes: &[u8]) -> Step
+    ensures { λ s. ⌜ s ≡ stepAt (now (bytes .entry)) 0 ⌝ }
+{
+    SheetReader::start(bytes).read()
+}

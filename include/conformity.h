@@ -1,0 +1,398 @@
+/*
+ * conformity.h - conformity verdicts for engine series (Kamghedo)
+ *
+ * A series of engines is tested one engine at a time until the measurements
+ * decide: the series passes, fails, or is referred to the authority. The rules
+ * are those of Directive 96/1/EC, section 8.1.1.1.3 and Appendices 1 to 3
+ * (production), and of COM(97) 77, Appendix 1 (vehicles in service).
+ *
+ * The caller keeps a SHEET: records of 20 bytes, one after another, in memory
+ * of its own. Two functions work on it:
+ *
+ *     conformity_append   adds a record, or refuses it and changes nothing
+ *     conformity_report   judges the sheet and writes a report of 20 bytes
+ *
+ * Records are built, and reports read, by the small functions below; no caller
+ * lays out bytes by hand. A whole test:
+ *
+ *     uint8_t  sheet[CONFORMITY_SHEET_MAX];
+ *     size_t   used = 0;
+ *     uint8_t  record[CONFORMITY_RECORD_SIZE];
+ *     uint8_t  report[CONFORMITY_REPORT_SIZE];
+ *     uint32_t measured[CONFORMITY_POLLUTANTS] = {0, 0, 0, 140};
+ *     uint32_t code;
+ *
+ *     conformity_pollutant_record(record, CONFORMITY_PARTICULATES,
+ *                                 CONFORMITY_PLAN_ATTRIBUTES, 150, 0);
+ *     code = conformity_append(sheet, sizeof sheet, used, record, sizeof record);
+ *     if (code == 0) used += CONFORMITY_RECORD_SIZE;
+ *
+ *     conformity_engine_record(record, 0, measured);      (once for each engine)
+ *     code = conformity_append(sheet, sizeof sheet, used, record, sizeof record);
+ *     if (code == 0) used += CONFORMITY_RECORD_SIZE;
+ *     else puts(conformity_refusal_text(conformity_refusal_number(code)));
+ *
+ *     code = conformity_report(sheet, used, report, sizeof report);
+ *     if (code == 0 && conformity_report_verdict(report) == CONFORMITY_VERDICT_PASS)
+ *         printf("pass at %u\n", (unsigned)conformity_report_engine(report));
+ *
+ * After four such engines this prints "pass at 4".
+ *
+ * POINTERS. Each pointer is followed by its length in bytes and must be valid
+ * for that many bytes: readable, and writable where it is not const. No pointer
+ * may be null; where a length is 0, any non-null pointer will do. The record
+ * must not overlap the buffer, nor the output the sheet. Nothing else may write
+ * to these bytes, or read those that the call writes, until it returns. Within
+ * that, every input has a defined answer: any bytes, any lengths, any `used`.
+ *
+ * THREADS. The library has no state, allocates nothing and keeps no pointer
+ * past a call. Calls on separate memory may run at the same time.
+ *
+ * LANGUAGE. C99 or later, or C++11 or later. Link with libconformity.a.
+ */
+#ifndef CONFORMITY_H
+#define CONFORMITY_H
+
+#include <stddef.h>
+#include <stdint.h>
+
+#ifdef __cplusplus
+extern "C" {
+#endif
+
+/* ---- Sizes and ranges --------------------------------------------------- */
+
+#define CONFORMITY_RECORD_SIZE 20 /* bytes of a record */
+#define CONFORMITY_RECORDS_MAX 37 /* 4 pollutants, 32 engines and a stop */
+#define CONFORMITY_SHEET_MAX 740  /* bytes of the longest sheet */
+#define CONFORMITY_REPORT_SIZE 20 /* bytes of a report */
+#define CONFORMITY_POLLUTANTS 4   /* measurements in an engine's record */
+
+#define CONFORMITY_VALUE_MAX 9999999     /* greatest limit or measurement; least 1 */
+#define CONFORMITY_DEVIATION_MAX 4000000 /* greatest deviation in plan 1; least 1 */
+#define CONFORMITY_CAUSE_MAX 65534       /* greatest cause of a gross emitter; least 1 */
+
+/* ---- What a sheet says -------------------------------------------------- */
+
+/*
+ * The order of records: one pollutant record for each declared pollutant, by
+ * rising number and all of one plan; then the engines as they are tested; then,
+ * if the manufacturer stops testing, one stop, after which nothing follows.
+ * A sheet may end after any record.
+ */
+enum conformity_kind {
+    CONFORMITY_KIND_POLLUTANT = 1, /* a pollutant with its limit */
+    CONFORMITY_KIND_ENGINE = 2,    /* an engine, or in plan 4 a vehicle */
+    CONFORMITY_KIND_STOP = 3       /* testing stopped by the manufacturer */
+};
+
+enum conformity_pollutant {
+    CONFORMITY_CARBON_MONOXIDE = 1,
+    CONFORMITY_HYDROCARBONS = 2,
+    CONFORMITY_NITROGEN_OXIDES = 3,
+    CONFORMITY_PARTICULATES = 4
+};
+
+/* The plan decides at the 3rd engine at the earliest, and at its last row at the latest. */
+enum conformity_plan {
+    CONFORMITY_PLAN_KNOWN_DEVIATION = 1,   /* 96/1/EC Appendix 1; last row 32 */
+    CONFORMITY_PLAN_UNKNOWN_DEVIATION = 2, /* 96/1/EC Appendix 2; last row 32 */
+    CONFORMITY_PLAN_ATTRIBUTES = 3,        /* 96/1/EC Appendix 3; last row 19 */
+    CONFORMITY_PLAN_IN_SERVICE = 4         /* COM(97) 77 Appendix 1; last row 15 */
+};
+
+/* ---- What a report says ------------------------------------------------- */
+
+#define CONFORMITY_REPORT_MARK 16 /* first byte of every report, and of no accepted sheet */
+
+enum conformity_verdict {
+    CONFORMITY_VERDICT_ANOTHER = 0, /* undecided: test another engine */
+    CONFORMITY_VERDICT_PASS = 1,
+    CONFORMITY_VERDICT_FAIL = 2,
+    CONFORMITY_VERDICT_REFERRED = 3 /* plan 4 only: the authority decides */
+};
+
+enum conformity_ground {
+    CONFORMITY_GROUND_NONE = 0,        /* the verdict is another */
+    CONFORMITY_GROUND_ROW = 1,         /* a row of the plan decided */
+    CONFORMITY_GROUND_EQUAL_CAUSE = 2, /* plan 4: two gross emitters of equal cause */
+    CONFORMITY_GROUND_STOPPED = 3,     /* stopped by the manufacturer while undecided: fail */
+    CONFORMITY_GROUND_REFERRED = 4     /* plan 4: two or more gross emitters among 15 */
+};
+
+enum conformity_decision {
+    CONFORMITY_DECISION_OPEN = 0, /* not decided, or the pollutant is not declared */
+    CONFORMITY_DECISION_PASS = 1,
+    CONFORMITY_DECISION_FAIL = 2
+};
+
+/* ---- Refusals ----------------------------------------------------------- */
+
+/*
+ * Both functions return 0 on success, and otherwise
+ *
+ *     refusal number * 256 + record
+ *
+ * where the record is counted from 0 and is 0 for refusals 1, 13, 14 and 15,
+ * which name none. A sheet is refused for its first faulty record, and for the
+ * lowest number that applies to it.
+ */
+enum conformity_refusal {
+    /* The sheet is empty, not a whole number of records, or longer than 740 bytes. */
+    CONFORMITY_REFUSED_LENGTH = 1,
+    /* The record's kind is not 1, 2 or 3. */
+    CONFORMITY_REFUSED_KIND = 2,
+    /* The first record is no pollutant, a pollutant follows another kind, or a record follows the
+       stop. */
+    CONFORMITY_REFUSED_ORDER = 3,
+    /* The pollutant number is not 1 to 4, or not above the one before. */
+    CONFORMITY_REFUSED_POLLUTANT = 4,
+    /* The plan is not 1 to 4, or unlike the first pollutant's. */
+    CONFORMITY_REFUSED_PLAN = 5,
+    /* The limit is not 1 to 9,999,999. */
+    CONFORMITY_REFUSED_LIMIT = 6,
+    /* The deviation is not 1 to 4,000,000 in plan 1, or not 0 in another plan. */
+    CONFORMITY_REFUSED_DEVIATION = 7,
+    /* A measurement is not 1 to 9,999,999, or one of an undeclared pollutant is not 0. */
+    CONFORMITY_REFUSED_MEASUREMENT = 8,
+    /* The cause is not 1 to 65,534 for a gross emitter in plan 4, or not 0 for any other engine. */
+    CONFORMITY_REFUSED_CAUSE = 9,
+    /* There are more engines than the plan's last row. */
+    CONFORMITY_REFUSED_ENGINES = 10,
+    /* Plan 4 knows no stop by the manufacturer. */
+    CONFORMITY_REFUSED_STOP = 11,
+    /* A byte that must be zero is not; no record built by the functions below has one. */
+    CONFORMITY_REFUSED_ZERO = 12,
+    /* append: fewer than 20 bytes of the buffer are left after `used`, or `used` is beyond it. */
+    CONFORMITY_REFUSED_BUFFER = 13,
+    /* append: the record is not 20 bytes long. */
+    CONFORMITY_REFUSED_RECORD = 14,
+    /* report: the output is shorter than 20 bytes. */
+    CONFORMITY_REFUSED_OUTPUT = 15
+};
+
+/* ---- The library -------------------------------------------------------- */
+
+/*
+ * Adds a record to the sheet in the first `used` bytes of the buffer; `used` is
+ * 0 for a new sheet.
+ *
+ * Returns 0 when the record was added: the 20 bytes from `used` on are then the
+ * record's, no other byte has changed, and the sheet is 20 bytes longer, which
+ * the caller adds to its own `used`.
+ *
+ * Otherwise no byte has changed, and the refusal is the first of these:
+ *     14       the record is not 20 bytes
+ *     13       no room for it
+ *     1 to 12  the sheet that was there is refused (not looked at if used is 0)
+ *     1 to 12  the sheet with the record added would be refused; the record
+ *              named is then the new one, used / 20 (for refusal 1, as always, 0)
+ *
+ * Records may be added after the series is decided. They are checked like any
+ * other and do not change the verdict.
+ */
+uint32_t conformity_append(uint8_t *buffer, size_t buffer_length, size_t used,
+                           const uint8_t *record, size_t record_length);
+
+/*
+ * Judges the sheet and writes a report of 20 bytes to the start of the output.
+ *
+ * Returns 0 when the report was written; bytes of the output past the first 20
+ * have not changed. Otherwise no byte has changed, and the refusal is the first
+ * of these:
+ *     15       the output is shorter than 20 bytes
+ *     1 to 12  the sheet is refused
+ */
+uint32_t conformity_report(const uint8_t *sheet, size_t sheet_length,
+                           uint8_t *output, size_t output_length);
+
+/* ---- Reading a return code ---------------------------------------------- */
+
+/* The refusal's number, 1 to 15 (enum conformity_refusal), or 0 for success. */
+static inline uint32_t conformity_refusal_number(uint32_t code)
+{
+    return code >> 8;
+}
+
+/* The record that the refusal names, counted from 0. */
+static inline uint32_t conformity_refusal_record(uint32_t code)
+{
+    return code & 0xffu;
+}
+
+/* A refusal's meaning in a sentence, for a message; never null. */
+static inline const char *conformity_refusal_text(uint32_t number)
+{
+    switch (number) {
+    case 0:
+        return "nothing was refused";
+    case CONFORMITY_REFUSED_LENGTH:
+        return "the sheet is empty, not a whole number of records, or longer than 740 bytes";
+    case CONFORMITY_REFUSED_KIND:
+        return "the record's kind is not 1, 2 or 3";
+    case CONFORMITY_REFUSED_ORDER:
+        return "the first record is no pollutant, a pollutant follows another kind, "
+               "or a record follows the stop";
+    case CONFORMITY_REFUSED_POLLUTANT:
+        return "the pollutant number is not 1 to 4, or not above the one before";
+    case CONFORMITY_REFUSED_PLAN:
+        return "the plan is not 1 to 4, or unlike the first pollutant's";
+    case CONFORMITY_REFUSED_LIMIT:
+        return "the limit is not 1 to 9999999";
+    case CONFORMITY_REFUSED_DEVIATION:
+        return "the deviation is not 1 to 4000000 in plan 1, or not 0 in another plan";
+    case CONFORMITY_REFUSED_MEASUREMENT:
+        return "a measurement is not 1 to 9999999, or one of an undeclared pollutant is not 0";
+    case CONFORMITY_REFUSED_CAUSE:
+        return "the cause is not 1 to 65534 for a gross emitter in plan 4, "
+               "or not 0 for any other engine";
+    case CONFORMITY_REFUSED_ENGINES:
+        return "there are more engines than the plan's last row";
+    case CONFORMITY_REFUSED_STOP:
+        return "plan 4 knows no stop by the manufacturer";
+    case CONFORMITY_REFUSED_ZERO:
+        return "a byte that must be zero is not";
+    case CONFORMITY_REFUSED_BUFFER:
+        return "the buffer has no room for another record";
+    case CONFORMITY_REFUSED_RECORD:
+        return "the record is not 20 bytes long";
+    case CONFORMITY_REFUSED_OUTPUT:
+        return "the output is shorter than 20 bytes";
+    default:
+        return "no refusal has this number";
+    }
+}
+
+/* ---- Building records --------------------------------------------------- */
+
+/*
+ * A builder writes all 20 bytes and checks nothing: conformity_append does. A
+ * number too large for its field is written as the field's greatest, which is
+ * refused, and never cut down to a smaller one that might be accepted.
+ */
+
+/* For the builders: `number`, or `greatest` where it is larger. */
+static inline uint32_t conformity_at_most_(uint32_t number, uint32_t greatest)
+{
+    return number < greatest ? number : greatest;
+}
+
+/* For the builders: a field of `width` bytes, least significant first, whatever the machine's
+   own order. */
+static inline void conformity_put_(uint8_t *field, size_t width, uint32_t number)
+{
+    size_t i;
+    for (i = 0; i < width; i++) {
+        field[i] = (number >> (8 * i)) & 0xffu;
+    }
+}
+
+/*
+ * Testing stopped by the manufacturer: fails a series that is undecided. Not in
+ * plan 4.
+ */
+static inline void conformity_stop_record(uint8_t record[CONFORMITY_RECORD_SIZE])
+{
+    size_t i;
+    for (i = 0; i < CONFORMITY_RECORD_SIZE; i++) {
+        record[i] = 0;
+    }
+    record[0] = CONFORMITY_KIND_STOP;
+}
+
+/*
+ * A pollutant with its limit.
+ *     pollutant  enum conformity_pollutant
+ *     plan       enum conformity_plan, the same for every pollutant of a sheet
+ *     limit      in thousandths of the limit's unit, 1 to CONFORMITY_VALUE_MAX
+ *     deviation  plan 1: the deviation s of the natural logarithms, in millionths,
+ *                1 to CONFORMITY_DEVIATION_MAX; 0 in the other plans
+ */
+static inline void conformity_pollutant_record(uint8_t record[CONFORMITY_RECORD_SIZE],
+                                               uint32_t pollutant, uint32_t plan,
+                                               uint32_t limit, uint32_t deviation)
+{
+    conformity_stop_record(record); /* for its zeros */
+    record[0] = CONFORMITY_KIND_POLLUTANT;
+    conformity_put_(record + 1, 1, conformity_at_most_(pollutant, 0xffu));
+    conformity_put_(record + 2, 1, conformity_at_most_(plan, 0xffu));
+    conformity_put_(record + 4, 4, limit);
+    conformity_put_(record + 8, 4, deviation);
+}
+
+/*
+ * An engine, or in plan 4 a vehicle.
+ *     cause         plan 4: what made a gross emitter one, as numbered by the
+ *                   caller, 1 to CONFORMITY_CAUSE_MAX; equal causes, equal
+ *                   numbers. 0 for every other vehicle and in the other plans. A
+ *                   vehicle is a gross emitter if a measurement is above 3/2 of
+ *                   its limit
+ *     measurements  in thousandths of the limit's unit, 1 to CONFORMITY_VALUE_MAX,
+ *                   carbon monoxide first: measurements[pollutant - 1]; 0 for a
+ *                   pollutant that the sheet does not declare
+ */
+static inline void conformity_engine_record(uint8_t record[CONFORMITY_RECORD_SIZE],
+                                            uint32_t cause,
+                                            const uint32_t measurements[CONFORMITY_POLLUTANTS])
+{
+    size_t i;
+    record[0] = CONFORMITY_KIND_ENGINE;
+    record[1] = 0;
+    conformity_put_(record + 2, 2, conformity_at_most_(cause, 0xffffu));
+    for (i = 0; i < CONFORMITY_POLLUTANTS; i++) {
+        conformity_put_(record + 4 + 4 * i, 4, measurements[i]);
+    }
+}
+
+/* ---- Reading a report --------------------------------------------------- */
+
+/* Whether these bytes bear the mark of a report (1) or not (0). */
+static inline int conformity_is_report(const uint8_t report[CONFORMITY_REPORT_SIZE])
+{
+    return report[0] == CONFORMITY_REPORT_MARK;
+}
+
+/* The series: enum conformity_verdict. */
+static inline uint32_t conformity_report_verdict(const uint8_t report[CONFORMITY_REPORT_SIZE])
+{
+    return report[1];
+}
+
+/* What the verdict rests on: enum conformity_ground. */
+static inline uint32_t conformity_report_ground(const uint8_t report[CONFORMITY_REPORT_SIZE])
+{
+    return report[2];
+}
+
+/* The engine, counted from 1, at which the series was decided; for another, the engines so far. */
+static inline uint32_t conformity_report_engine(const uint8_t report[CONFORMITY_REPORT_SIZE])
+{
+    return report[3];
+}
+
+/* For the readers: whether a report has a place for this pollutant. */
+static inline int conformity_has_pollutant_(uint32_t pollutant)
+{
+    return pollutant >= 1 && pollutant <= CONFORMITY_POLLUTANTS;
+}
+
+/* A pollutant's decision, enum conformity_decision; open for a number that is no pollutant's. */
+static inline uint32_t conformity_report_decision(const uint8_t report[CONFORMITY_REPORT_SIZE],
+                                                  uint32_t pollutant)
+{
+    return conformity_has_pollutant_(pollutant) ? report[2 + 2 * pollutant] : 0;
+}
+
+/* The engine, counted from 1, at which the pollutant was decided; 0 where it is open. */
+static inline uint32_t
+conformity_report_decision_engine(const uint8_t report[CONFORMITY_REPORT_SIZE],
+                                  uint32_t pollutant)
+{
+    return conformity_has_pollutant_(pollutant) ? report[3 + 2 * pollutant] : 0;
+}
+
+#ifdef __cplusplus
+}
+#endif
+
+#endif /* CONFORMITY_H */

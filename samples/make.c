@@ -1,0 +1,258 @@
+/* Writes the sample sheets and the lines that document 01 gives for each: NAME.sheet and NAME.lines, into the folder named.
+   The lines are typed here from the document and not computed. */
+#include <stdint.h>
+#include <stdio.h>
+#include <stdlib.h>
+#include <string.h>
+
+static const char *folder;
+static uint8_t sheet[8192];
+static size_t length;
+
+static void byte(uint32_t x) {
+    sheet[length++] = (uint8_t)x;
+}
+
+static void four(uint32_t x) {
+    byte(x);
+    byte(x >> 8);
+    byte(x >> 16);
+    byte(x >> 24);
+}
+
+static void pollutant(uint32_t number, uint32_t plan, uint32_t limit, uint32_t deviation) {
+    byte(1);
+    byte(number);
+    byte(plan);
+    byte(0);
+    four(limit);
+    four(deviation);
+    four(0);
+    four(0);
+}
+
+static void engine(uint32_t cause, uint32_t co, uint32_t hc, uint32_t nox, uint32_t pm) {
+    byte(2);
+    byte(0);
+    byte(cause);
+    byte(cause >> 8);
+    four(co);
+    four(hc);
+    four(nox);
+    four(pm);
+}
+
+/* Engines measured for pollutant 1 alone. */
+static void measured(int engines, uint32_t x) {
+    while (engines-- > 0) engine(0, x, 0, 0, 0);
+}
+
+static void stop(void) {
+    byte(3);
+    while (length % 20 != 0) byte(0);
+}
+
+static void put(const char *name, const char *ending, const void *bytes, size_t n) {
+    char path[4096];
+    snprintf(path, sizeof path, "%s/%s.%s", folder, name, ending);
+    FILE *f = fopen(path, "wb");
+    if (f == NULL || fwrite(bytes, 1, n, f) != n || fclose(f) != 0) {
+        perror(path);
+        exit(1);
+    }
+}
+
+/* The records so far are a sheet, and these its lines. */
+static void sample(const char *name, const char *lines) {
+    put(name, "sheet", sheet, length);
+    put(name, "lines", lines, strlen(lines));
+    length = 0;
+}
+
+/* "Series that stand on a line" */
+static void on_a_line(void) {
+    pollutant(4, 3, 150, 0);
+    for (int i = 0; i < 4; i++) engine(0, 0, 0, 0, 140);
+    sample("example", "pass 4 1\n4 pass 4\n");
+
+    pollutant(1, 1, 4000, 625020);
+    measured(3, 2000);
+    sample("known-625020", "pass 3 1\n1 pass 3\n");
+    pollutant(1, 1, 4000, 625021);
+    measured(3, 2000);
+    sample("known-625021", "another 3 0\n1 open 0\n");
+    pollutant(1, 1, 4000, 440186);
+    measured(3, 8000);
+    sample("known-440186", "fail 3 1\n1 fail 3\n");
+    pollutant(1, 1, 4000, 440187);
+    measured(3, 8000);
+    sample("known-440187", "another 3 0\n1 open 0\n");
+
+    pollutant(1, 2, 4000, 0);
+    measured(3, 4000);
+    sample("unknown-4000-4000-4000", "pass 3 1\n1 pass 3\n");
+    pollutant(1, 2, 4000, 0);
+    measured(2, 4000);
+    measured(1, 2000);
+    sample("unknown-4000-4000-2000", "another 3 0\n1 open 0\n");
+    pollutant(1, 2, 4000, 0);
+    measured(3, 8000);
+    sample("unknown-8000-8000-8000", "fail 3 1\n1 fail 3\n");
+    pollutant(1, 2, 4000, 0);
+    measured(2, 8000);
+    measured(1, 16000);
+    sample("unknown-8000-8000-16000", "another 3 0\n1 open 0\n");
+
+    /* 1500 is no gross emitter, so its cause is 0; 1501 is, so its cause is not. */
+    pollutant(1, 4, 1000, 0);
+    measured(1, 1500);
+    sample("in-service-1500", "another 1 0\n1 open 0\n");
+    pollutant(1, 4, 1000, 0);
+    engine(7, 1501, 0, 0, 0);
+    sample("in-service-1501", "another 1 0\n1 open 0\n");
+    pollutant(1, 4, 1000, 0);
+    measured(1, 1501);
+    sample("in-service-1501-without-cause", "refused 9 1\n");
+    pollutant(1, 4, 1000, 0);
+    engine(7, 1501, 0, 0, 0);
+    engine(7, 1501, 0, 0, 0);
+    measured(1, 900);
+    sample("equal-cause", "fail 3 2\n1 open 0\n");
+    pollutant(1, 4, 1000, 0);
+    engine(7, 1501, 0, 0, 0);
+    engine(8, 1501, 0, 0, 0);
+    measured(1, 900);
+    sample("unlike-causes", "another 3 0\n1 open 0\n");
+
+    pollutant(1, 1, 4000, 625020);
+    sample("no-engine", "another 0 0\n1 open 0\n");
+    pollutant(1, 1, 4000, 625020);
+    stop();
+    sample("stop-at-0", "fail 0 3\n1 open 0\n");
+}
+
+/* The grounds, rows and lines that the list above leaves out. */
+static void others(void) {
+    /* Stopped after two engines, of two pollutants. */
+    pollutant(2, 2, 150, 0);
+    pollutant(3, 2, 150, 0);
+    engine(0, 0, 140, 160, 0);
+    engine(0, 0, 140, 160, 0);
+    stop();
+    sample("stopped", "fail 2 3\n2 open 0\n3 open 0\n");
+
+    /* Two gross emitters of unlike cause among 15: 800 and 1250 by turns leave each row before open. */
+    pollutant(1, 4, 1000, 0);
+    for (int n = 1; n <= 15; n++) {
+        if (n == 5) engine(7, 1501, 0, 0, 0);
+        else if (n == 9) engine(8, 1501, 0, 0, 0);
+        else measured(1, n % 2 == 1 ? 800 : 1250);
+    }
+    sample("referred", "referred 15 4\n1 open 0\n");
+
+    /* Plan 3: none over passes at 4; two, three and four over of 3, 4 and 5 fail at 5; one over is open. */
+    pollutant(1, 3, 150, 0);
+    pollutant(2, 3, 150, 0);
+    pollutant(3, 3, 150, 0);
+    engine(0, 150, 151, 151, 0);
+    engine(0, 150, 151, 150, 0);
+    engine(0, 150, 150, 150, 0);
+    engine(0, 150, 151, 150, 0);
+    engine(0, 150, 151, 150, 0);
+    sample("three-decisions", "fail 5 1\n1 pass 4\n2 fail 5\n3 open 0\n");
+
+    /* Plan 3's last row: "At 19: pass up to 8, fail from 9." */
+    pollutant(1, 3, 150, 0);
+    for (int n = 1; n <= 19; n++) measured(1, n % 2 == 0 && n <= 16 ? 151 : 150);
+    sample("attributes-8-of-19", "pass 19 1\n1 pass 19\n");
+    pollutant(1, 3, 150, 0);
+    for (int n = 1; n <= 19; n++) measured(1, n % 2 == 0 ? 151 : 150);
+    sample("attributes-9-of-19", "fail 19 1\n1 fail 19\n");
+
+    /* The longest sheet, 37 records: T is 0, which only the numbers of row 32 pass. The stop comes after the decision. */
+    for (uint32_t p = 1; p <= 4; p++) pollutant(p, 1, 1000, 1);
+    for (int n = 1; n <= 32; n++) engine(0, 1000, 1000, 1000, 1000);
+    stop();
+    sample("longest", "pass 32 1\n1 pass 32\n2 pass 32\n3 pass 32\n4 pass 32\n");
+
+    /* "Engines after the decision are checked and counted for nothing." */
+    pollutant(1, 2, 4000, 0);
+    measured(3, 4000);
+    measured(2, 9999999);
+    sample("after-the-decision", "pass 3 1\n1 pass 3\n");
+
+    /* Two series of seven engines that one C library's logarithm passes at 7 and another's leaves open, each in its own way. */
+    static const uint32_t first[] = {6054011, 7125279, 7809388, 7501976, 5847897, 5300524, 6870023};
+    pollutant(1, 1, 7244722, 217432);
+    for (int i = 0; i < 7; i++) measured(1, first[i]);
+    sample("seven-first", "pass 7 1\n1 pass 7\n");
+    static const uint32_t second[] = {5905477, 5140553, 6640553, 6153108, 3863460, 4805799, 5534779};
+    pollutant(1, 1, 6273177, 358586);
+    for (int i = 0; i < 7; i++) measured(1, second[i]);
+    sample("seven-second", "pass 7 1\n1 pass 7\n");
+}
+
+/* "What each operation turns down" */
+static void refusals(void) {
+    sample("refused-01-no-bytes", "refused 1 0\n");
+    pollutant(1, 1, 4000, 625020);
+    length--;
+    sample("refused-01-not-whole", "refused 1 0\n");
+    pollutant(1, 1, 4000, 625020);
+    measured(37, 2000);
+    sample("refused-01-38-records", "refused 1 0\n");
+    pollutant(1, 1, 4000, 625020);
+    measured(399, 2000);
+    sample("refused-01-400-records", "refused 1 0\n");
+
+    while (length < 20) byte(9);
+    sample("refused-02", "refused 2 0\n");
+    stop();
+    sample("refused-03-first", "refused 3 0\n");
+    pollutant(1, 3, 150, 0);
+    measured(1, 1);
+    pollutant(2, 3, 150, 0);
+    sample("refused-03-pollutant-after-engine", "refused 3 2\n");
+    pollutant(1, 3, 150, 0);
+    stop();
+    stop();
+    sample("refused-03-after-stop", "refused 3 2\n");
+    pollutant(2, 3, 150, 0);
+    pollutant(2, 3, 150, 0);
+    sample("refused-04", "refused 4 1\n");
+    pollutant(2, 3, 150, 0);
+    pollutant(3, 2, 150, 0);
+    sample("refused-05", "refused 5 1\n");
+    pollutant(2, 3, 10000000, 0);
+    sample("refused-06", "refused 6 0\n");
+    pollutant(2, 1, 10000, 4000001);
+    sample("refused-07", "refused 7 0\n");
+    pollutant(2, 2, 10000, 0);
+    measured(1, 1);
+    sample("refused-08", "refused 8 1\n");
+    pollutant(1, 4, 10000, 0);
+    engine(3, 20, 0, 0, 0);
+    sample("refused-09", "refused 9 1\n");
+    pollutant(1, 3, 150, 0);
+    measured(20, 150);
+    sample("refused-10", "refused 10 20\n");
+    pollutant(1, 4, 10000, 0);
+    stop();
+    sample("refused-11", "refused 11 1\n");
+    pollutant(1, 3, 150, 0);
+    stop();
+    sheet[21] = 1;
+    sample("refused-12", "refused 12 1\n");
+}
+
+int main(int count, char **words) {
+    if (count != 2) {
+        fprintf(stderr, "usage: %s FOLDER\n", words[0]);
+        return 1;
+    }
+    folder = words[1];
+    on_a_line();
+    others();
+    refusals();
+    return 0;
+}

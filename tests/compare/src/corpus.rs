@@ -1,0 +1,267 @@
+//! The sheets that every suite goes through: pairs on a line, plan 4's directed sheets, damaged
+//! sheets for every refusal, the longest sheets, and random ones.
+
+use crate::attributes;
+use crate::draft::{random_draft, Draft};
+use crate::exact;
+use crate::pairs::{self, Cell, Pair};
+use crate::random::Random;
+use crate::refusals::WAYS;
+use crate::service;
+use second::{check, last_row, CORRECT, LONGEST_SHEET, RECORD};
+use std::fmt;
+use std::ops::ControlFlow;
+
+/// How much is compared.
+#[derive(Clone, Copy)]
+pub struct Scale {
+    pub pairs_in_cell: usize,
+    /// Whether sharp pairs and exact series are looked for, which takes some seconds.
+    pub closest: bool,
+    pub rounds_of_damage: usize,
+    /// One of so many of the longest sheets and of plan 4's directed ones.
+    pub one_directed_in: usize,
+    pub random_sheets: usize,
+    pub promises: usize,
+}
+
+pub const FULL: Scale = Scale {
+    pairs_in_cell: 24,
+    closest: true,
+    rounds_of_damage: 12,
+    one_directed_in: 1,
+    random_sheets: 400_000,
+    promises: 60_000,
+};
+
+/// A part, for a run under valgrind.
+pub const QUICK: Scale = Scale {
+    pairs_in_cell: 1,
+    closest: false,
+    rounds_of_damage: 4,
+    one_directed_in: 16,
+    random_sheets: 1_500,
+    promises: 100,
+};
+
+/// Where a sheet comes from.
+#[derive(Clone, Copy)]
+pub enum Origin {
+    Pair(Cell),
+    Exact(Cell),
+    Attributes,
+    InService,
+    Damage(usize),
+    TwoDamages(usize, usize),
+    Longest,
+    Random,
+}
+
+impl fmt::Display for Origin {
+    fn fmt(&self, formatter: &mut fmt::Formatter) -> fmt::Result {
+        match *self {
+            Origin::Pair(Cell { plan, row, line }) => {
+                write!(formatter, "line pair, plan {plan}, row {row}, {line:?}")
+            }
+            Origin::Exact(Cell { plan, row, line }) => {
+                write!(
+                    formatter,
+                    "series on a line, plan {plan}, row {row}, {line:?}"
+                )
+            }
+            Origin::Attributes => write!(formatter, "directed sheet of plan 3"),
+            Origin::InService => write!(formatter, "directed sheet of plan 4"),
+            Origin::Damage(way) => {
+                write!(
+                    formatter,
+                    "refusal {}, {}",
+                    WAYS[way].refusal, WAYS[way].name
+                )
+            }
+            Origin::TwoDamages(one, other) => {
+                write!(formatter, "{} and {}", WAYS[one].name, WAYS[other].name)
+            }
+            Origin::Longest => write!(formatter, "sheet of 740 bytes"),
+            Origin::Random => write!(formatter, "random sheet"),
+        }
+    }
+}
+
+pub struct Corpus {
+    pub pairs: Vec<Pair>,
+    pub exact: Vec<(Cell, Vec<u8>)>,
+    directed: Vec<(Origin, Vec<u8>)>,
+    random_sheets: usize,
+}
+
+impl Corpus {
+    pub fn new(scale: Scale) -> Self {
+        let mut random = Random::new(0xC0FFEE);
+        let mut pairs = Vec::new();
+        let mut exact = Vec::new();
+        for cell in pairs::cells() {
+            let mut found = pairs::pairs(cell, scale.pairs_in_cell, &mut random);
+            if scale.closest && cell.plan != 3 && !found.iter().any(Pair::is_sharp) {
+                found.extend(pairs::sharp_pair(cell, &mut random));
+            }
+            pairs.extend(found);
+            if scale.closest && matches!(cell.plan, 2 | 4) {
+                exact.extend(exact::series(cell, &mut random).map(|sheet| (cell, sheet)));
+            }
+        }
+        let mut directed = Vec::new();
+        directed.extend(labelled(Origin::Attributes, attributes::sheets()));
+        let in_service = labelled(Origin::InService, service::sheets());
+        directed.extend(in_service.step_by(scale.one_directed_in));
+        for _ in 0..scale.rounds_of_damage {
+            directed.extend(damaged_sheets(&mut random));
+            let longest = labelled(Origin::Longest, longest_sheets(&mut random));
+            directed.extend(longest.step_by(scale.one_directed_in));
+        }
+        directed.extend(twice_damaged_sheets(&mut random));
+        Corpus {
+            pairs,
+            exact,
+            directed,
+            random_sheets: scale.random_sheets,
+        }
+    }
+
+    /// Shows every sheet with its origin.
+    pub fn visit(
+        &self,
+        visit: &mut dyn FnMut(Origin, &[u8]) -> ControlFlow<()>,
+    ) -> ControlFlow<()> {
+        for pair in &self.pairs {
+            for sheet in &pair.sheets {
+                visit(Origin::Pair(pair.cell), sheet)?;
+            }
+        }
+        for (cell, sheet) in &self.exact {
+            visit(Origin::Exact(*cell), sheet)?;
+        }
+        for (origin, sheet) in &self.directed {
+            visit(*origin, sheet)?;
+        }
+        let mut random = Random::new(0x5EED);
+        for _ in 0..self.random_sheets {
+            visit(Origin::Random, &random_sheet(&mut random))?;
+        }
+        ControlFlow::Continue(())
+    }
+}
+
+fn labelled(origin: Origin, sheets: Vec<Vec<u8>>) -> impl Iterator<Item = (Origin, Vec<u8>)> {
+    sheets.into_iter().map(move |sheet| (origin, sheet))
+}
+
+/// For each plan, every way to a refusal that has a place there.
+fn damaged_sheets(random: &mut Random) -> Vec<(Origin, Vec<u8>)> {
+    let mut sheets = Vec::new();
+    for plan in 1..=4 {
+        for (index, way) in WAYS.iter().enumerate() {
+            let mut sheet = accepted_sheet(plan, random);
+            let fits = (way.spoil)(&mut sheet, random);
+            if fits && (way.refusal == 1 || sheet.len() <= LONGEST_SHEET) {
+                sheets.push((Origin::Damage(index), sheet));
+            }
+        }
+    }
+    sheets
+}
+
+/// Two faults on one sheet: the first record's holds, and in it the lowest number.
+fn twice_damaged_sheets(random: &mut Random) -> Vec<(Origin, Vec<u8>)> {
+    let mut sheets = Vec::new();
+    for (one, first) in WAYS.iter().enumerate() {
+        for (other, second) in WAYS.iter().enumerate() {
+            let plan = random.between(1, 4) as u8;
+            let mut sheet = accepted_sheet(plan, random);
+            let spoilt = (first.spoil)(&mut sheet, random);
+            if spoilt && starts_with_pollutant(&sheet) && (second.spoil)(&mut sheet, random) {
+                sheets.push((Origin::TwoDamages(one, other), sheet));
+            }
+        }
+    }
+    sheets
+}
+
+fn starts_with_pollutant(sheet: &[u8]) -> bool {
+    sheet.len() >= RECORD && sheet[0] == 1
+}
+
+fn accepted_sheet(plan: u8, random: &mut Random) -> Vec<u8> {
+    loop {
+        let draft = random_draft(random);
+        let sheet = draft.bytes();
+        if draft.plan == plan && check::<CORRECT>(&sheet).is_ok() {
+            return sheet;
+        }
+    }
+}
+
+/// Four pollutants, 32 engines and a stop, whole and with each damage that keeps the length.
+fn longest_sheets(random: &mut Random) -> Vec<Vec<u8>> {
+    let sheet = longest_draft(random).bytes();
+    let mut sheets = vec![sheet.clone()];
+    for way in &WAYS {
+        let mut spoilt = sheet.clone();
+        if (way.spoil)(&mut spoilt, random) && spoilt.len() == LONGEST_SHEET {
+            sheets.push(spoilt);
+        }
+    }
+    sheets
+}
+
+fn longest_draft(random: &mut Random) -> Draft {
+    loop {
+        let mut draft = random_draft(random);
+        if draft.plan > 2 || draft.pollutants.len() < 4 || draft.engines.is_empty() {
+            continue;
+        }
+        while draft.engines.len() < last_row::<CORRECT>(draft.plan) {
+            draft.engines.push(random.pick(&draft.engines));
+        }
+        draft.engines.truncate(last_row::<CORRECT>(draft.plan));
+        draft.stopped = true;
+        return draft;
+    }
+}
+
+/// Half of them accepted, the others damaged, changed in some bytes, or no sheet at all.
+fn random_sheet(random: &mut Random) -> Vec<u8> {
+    match random.below(8) {
+        0 => random_bytes(random),
+        1 => {
+            let mut sheet = random_draft(random).bytes();
+            for _ in 0..random.between(1, 3) {
+                let place = random.below(sheet.len());
+                sheet[place] = random.byte();
+            }
+            sheet
+        }
+        2 | 3 => {
+            let mut sheet = random_draft(random).bytes();
+            for _ in 0..random.between(1, 3) {
+                let way = &WAYS[random.below(WAYS.len())];
+                if starts_with_pollutant(&sheet) {
+                    (way.spoil)(&mut sheet, random);
+                }
+            }
+            sheet
+        }
+        _ => random_draft(random).bytes(),
+    }
+}
+
+/// Random bytes of any length, half of them with the kind of each record in range.
+fn random_bytes(random: &mut Random) -> Vec<u8> {
+    let mut sheet: Vec<u8> = (0..random.below(800)).map(|_| random.byte()).collect();
+    if random.one_in(2) {
+        sheet.truncate(sheet.len() - sheet.len() % RECORD);
+        for start in (0..sheet.len()).step_by(RECORD) {
+            sheet[start] = random.between(1, 3) as u8;
+        }
+    }
+    sheet
+}

@@ -1,0 +1,240 @@
+//! A sheet in the making, as document 01's records describe it.
+
+use crate::random::Random;
+use second::{judge, last_row, Judgement, Verdict, CORRECT, RECORD};
+
+pub const LARGEST: u32 = 9_999_999;
+
+#[derive(Clone, Copy)]
+pub struct Pollutant {
+    pub number: u8,
+    pub limit: u32,
+    pub deviation: u32,
+}
+
+#[derive(Clone, Copy)]
+pub struct Engine {
+    pub cause: u16,
+    pub measurements: [u32; 4],
+}
+
+#[derive(Clone)]
+pub struct Draft {
+    pub plan: u8,
+    pub pollutants: Vec<Pollutant>,
+    pub engines: Vec<Engine>,
+    pub stopped: bool,
+}
+
+/// How the measurements of one pollutant lie about its limit.
+#[derive(Clone, Copy)]
+enum Spread {
+    Near,
+    Around,
+    Under,
+    Over,
+    Anywhere,
+    Equal,
+    Edges,
+}
+
+const SPREADS: [Spread; 7] = [
+    Spread::Near,
+    Spread::Around,
+    Spread::Under,
+    Spread::Over,
+    Spread::Anywhere,
+    Spread::Equal,
+    Spread::Edges,
+];
+
+impl Draft {
+    pub fn new(plan: u8, pollutants: Vec<Pollutant>) -> Self {
+        Draft {
+            plan,
+            pollutants,
+            engines: Vec::new(),
+            stopped: false,
+        }
+    }
+
+    pub fn bytes(&self) -> Vec<u8> {
+        let mut sheet = Vec::with_capacity(760);
+        for pollutant in &self.pollutants {
+            sheet.extend([1, pollutant.number, self.plan, 0]);
+            sheet.extend(pollutant.limit.to_le_bytes());
+            sheet.extend(pollutant.deviation.to_le_bytes());
+            sheet.extend([0; 8]);
+        }
+        for engine in &self.engines {
+            sheet.extend([2, 0]);
+            sheet.extend(engine.cause.to_le_bytes());
+            sheet.extend(engine.measurements.iter().flat_map(|x| x.to_le_bytes()));
+        }
+        if self.stopped {
+            sheet.extend(stop_record());
+        }
+        sheet
+    }
+
+    /// What document 01 answers, for a draft that is an accepted sheet.
+    pub fn judged(&self) -> Judgement {
+        judge::<CORRECT>(&self.bytes()).expect("an accepted sheet")
+    }
+
+    pub fn is_undecided(&self) -> bool {
+        self.judged().verdict == Verdict::Another
+    }
+
+    /// Adds an engine; under plan 4 a gross emitter gets the cause.
+    pub fn test(&mut self, measurements: [u32; 4], cause: u16) {
+        let gross = self.plan == 4 && self.is_gross_emitter(measurements);
+        self.engines.push(Engine {
+            cause: if gross { cause } else { 0 },
+            measurements,
+        });
+    }
+
+    fn is_gross_emitter(&self, measurements: [u32; 4]) -> bool {
+        self.pollutants.iter().any(|pollutant| {
+            let x = measurements[usize::from(pollutant.number) - 1];
+            u64::from(x) * 2 > u64::from(pollutant.limit) * 3
+        })
+    }
+}
+
+pub fn stop_record() -> [u8; RECORD] {
+    let mut record = [0; RECORD];
+    record[0] = 3;
+    record
+}
+
+/// A random sheet that the check accepts, or now and then one with an engine too many or with a
+/// stop under plan 4.
+pub fn random_draft(random: &mut Random) -> Draft {
+    let plan = random.between(1, 4) as u8;
+    let mut draft = Draft::new(plan, random_pollutants(random, plan));
+    let spreads: Vec<Spread> = draft
+        .pollutants
+        .iter()
+        .map(|_| random.pick(&SPREADS))
+        .collect();
+    let count = random_count(random, last_row::<CORRECT>(plan));
+    let kept_open = random.one_in(4);
+    for _ in 0..count {
+        let tries = if kept_open { 6 } else { 1 };
+        test_one(random, &mut draft, &spreads, tries);
+    }
+    draft.stopped = random.one_in(if plan == 4 { 40 } else { 4 });
+    draft
+}
+
+/// Adds one engine; with several tries, the first that leaves the series undecided if there is one.
+fn test_one(random: &mut Random, draft: &mut Draft, spreads: &[Spread], tries: usize) {
+    for left in (0..tries).rev() {
+        let measurements = random_measurements(random, draft, spreads);
+        let cause = random_cause(random);
+        draft.test(measurements, cause);
+        let fits = draft.engines.len() <= last_row::<CORRECT>(draft.plan);
+        if left == 0 || !fits || draft.is_undecided() {
+            return;
+        }
+        draft.engines.pop();
+    }
+}
+
+fn random_pollutants(random: &mut Random, plan: u8) -> Vec<Pollutant> {
+    let declared = if random.one_in(3) {
+        1 << random.below(4)
+    } else {
+        random.between(1, 15)
+    };
+    (1..=4)
+        .filter(|number| declared >> (number - 1) & 1 == 1)
+        .map(|number| Pollutant {
+            number,
+            limit: random_limit(random),
+            deviation: if plan == 1 {
+                random_deviation(random)
+            } else {
+                0
+            },
+        })
+        .collect()
+}
+
+fn random_limit(random: &mut Random) -> u32 {
+    match random.below(8) {
+        0 => random.pick(&[1, 2, 3, LARGEST - 1, LARGEST]),
+        1 => random.between(1, 20),
+        2 | 3 => random.magnitude(100, 20_000),
+        _ => random.magnitude(20_000, LARGEST),
+    }
+}
+
+fn random_deviation(random: &mut Random) -> u32 {
+    match random.below(8) {
+        0 => random.pick(&[1, 2, 3_999_999, 4_000_000]),
+        1 => random.magnitude(1, 4_000_000),
+        _ => random.magnitude(20_000, 4_000_000),
+    }
+}
+
+fn random_count(random: &mut Random, last: usize) -> usize {
+    match random.below(8) {
+        0 => last,
+        1 => random.below(5),
+        2 if random.one_in(4) => last + 1,
+        _ => random.below(last + 1),
+    }
+}
+
+fn random_cause(random: &mut Random) -> u16 {
+    match random.below(4) {
+        0 => random.pick(&[1, 255, 256, 65_534]),
+        1 => random.between(1, 3) as u16,
+        _ => random.between(1, 65_534) as u16,
+    }
+}
+
+fn random_measurements(random: &mut Random, draft: &Draft, spreads: &[Spread]) -> [u32; 4] {
+    let mut measurements = [0; 4];
+    let tame = draft.plan == 4 && !random.one_in(6);
+    for (pollutant, &spread) in draft.pollutants.iter().zip(spreads) {
+        let x = random_measurement(random, pollutant.limit, spread);
+        let most = pollutant.limit + pollutant.limit / 2;
+        measurements[usize::from(pollutant.number) - 1] = if tame { x.min(most) } else { x };
+    }
+    measurements
+}
+
+fn random_measurement(random: &mut Random, limit: u32, spread: Spread) -> u32 {
+    let scaled = |octaves: f64| (f64::from(limit) * octaves.exp2()).round() as u32;
+    let offset = random.fraction();
+    let x = match spread {
+        Spread::Near => scaled(offset * 0.2 - 0.1),
+        Spread::Around => scaled(offset * 3.0 - 1.5),
+        Spread::Under => scaled(offset * -1.2 + 0.2),
+        Spread::Over => scaled(offset * 1.2 - 0.2),
+        Spread::Anywhere => random.magnitude(1, LARGEST),
+        Spread::Equal => scaled(0.3),
+        Spread::Edges => random_edge(random, limit),
+    };
+    x.clamp(1, LARGEST)
+}
+
+/// Values beside a limit, beside the gross emitter's line, and the ends of the range.
+fn random_edge(random: &mut Random, limit: u32) -> u32 {
+    let gross = limit + limit / 2;
+    let edges = [
+        limit - 1,
+        limit,
+        limit + 1,
+        gross - 1,
+        gross,
+        gross + 1,
+        1,
+        LARGEST,
+    ];
+    random.pick(&edges)
+}

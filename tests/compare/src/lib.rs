@@ -1,0 +1,18 @@
+//! What the two programs of the comparison share: the sheets, the calls, the lent memory and the
+//! counting. `compare` holds report and append of the delivered library against the second
+//! implementation; `compare_probe` holds the logarithm, evidence and the printed lines.
+
+pub mod attributes;
+pub mod cases;
+pub mod corpus;
+pub mod draft;
+pub mod exact;
+pub mod memory;
+pub mod pairs;
+pub mod promises;
+pub mod random;
+pub mod refusals;
+pub mod seconds;
+pub mod seen;
+pub mod service;
+pub mod tally;
