@@ -1,25 +1,8 @@
 //! Sheets to time on: full ones, which no row decides before the last, and typical ones, decided
 //! at 3 to 7 engines.
 
+use random::Random;
 use second::{judge, last_row, Ground, Verdict, CORRECT, RECORD};
-
-/// Repeatable random numbers (xorshift64*).
-pub struct Random(u64);
-
-impl Random {
-    /// The seed is any number but 0.
-    pub fn new(seed: u64) -> Self {
-        Random(seed)
-    }
-
-    /// From 0 to 1.
-    pub fn fraction(&mut self) -> f64 {
-        self.0 ^= self.0 >> 12;
-        self.0 ^= self.0 << 25;
-        self.0 ^= self.0 >> 27;
-        (self.0.wrapping_mul(0x2545_F491_4F6C_DD1D) >> 11) as f64 / (1u64 << 53) as f64
-    }
-}
 
 /// One pollutant and what was measured of it.
 struct Series {

@@ -3,24 +3,12 @@
 
 use bench::sheets;
 use bench::timing::{against, time};
+use entries::{conformity_append, conformity_report};
 use second::{append, last_row, report, Refusal, CORRECT, RECORD, REPORT};
 use std::ffi::c_void;
 use std::hint::black_box;
 
 extern "C" {
-    fn conformity_append(
-        buffer: *mut u8,
-        buffer_length: usize,
-        used: usize,
-        record: *const u8,
-        record_length: usize,
-    ) -> u32;
-    fn conformity_report(
-        sheet: *const u8,
-        sheet_length: usize,
-        output: *mut u8,
-        output_length: usize,
-    ) -> u32;
     fn doubles_report(
         sheet: *const u8,
         sheet_length: usize,

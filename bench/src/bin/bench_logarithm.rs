@@ -1,13 +1,13 @@
 //! Times the logarithm alone: the delivered library's, by way of the probe library, against the
 //! second implementation's and the C library's `log`.
 
-use bench::sheets::Random;
 use bench::timing::{against, time};
+use entries::probe_logarithm;
+use random::Random;
 use second::{logarithm, CORRECT};
 use std::hint::black_box;
 
 extern "C" {
-    fn probe_logarithm(m: u32) -> u32;
     fn log(x: f64) -> f64;
 }
 

@@ -1,12 +1,12 @@
 // The fields of a record, by document 01's "The sheet". A byte past the record's end counts as 0.
 ghost use mathlib.Core.Path.{_≡_};
-ghost use Prim.Native.Nat.{_+_, _*_, _≤_, _<_};
+ghost use Prim.Native.Nat.{_+_, _*_, _^_, _≤_, _<_};
 ghost use lib.ListN.{length, take, drop};
 ghost use Rattle.rules.specs.Tools.{within, byte, two, four};
 ghost use Rattle.rules.specs.Sheet.{kind, number, plan, limit, deviation, cause, measurement};
 use crate::Sheet;
 
-// Record k of a sheet.
+// Record k of a sheet. For `sheet`, `series` and `reading`, which ask for records below the sheet's end: so it may require.
 pub fn record_at(sheet: &[u8], k: usize) -> &[u8]
     requires { ⌜ 20 * k + 20 ≤ length (now sheet) ⌝ }
     ensures { λ r. ⌜ now r ≡ take 20 (drop (20 * k) (now (sheet .entry))) ⌝ }
@@ -23,15 +23,15 @@ fn present(r: &[u8], i: usize) -> u32
     r[i] as u32
 }
 
-pub fn byte_at(r: &[u8], i: usize) -> u32
+pub(crate) fn byte_at(r: &[u8], i: usize) -> u32
     ensures { λ n. ⌜ (n ≡ byte (now (r .entry)) i) × (n < 256) ⌝ }
 {
     if i < r.len() { present(r, i) } else { 0 }
 }
 
 // One question for both bytes, so that they are read together.
-pub fn u16_at(r: &[u8], i: usize) -> u32
-    requires { ⌜ i < 20 ⌝ }
+pub(crate) fn u16_at(r: &[u8], i: usize) -> u32
+    requires { ⌜ i < 2 ^ 41 ⌝ }
     ensures { λ n. ⌜ (n ≡ two (now (r .entry)) i) × (n < 65536) ⌝ }
 {
     if i + 1 < r.len() {
@@ -42,8 +42,8 @@ pub fn u16_at(r: &[u8], i: usize) -> u32
 }
 
 // One question for all four bytes, so that they are read together.
-pub fn u32_at(r: &[u8], i: usize) -> u32
-    requires { ⌜ i < 18 ⌝ }
+pub(crate) fn u32_at(r: &[u8], i: usize) -> u32
+    requires { ⌜ i < 2 ^ 40 ⌝ }
     ensures { λ n. ⌜ n ≡ four (now (r .entry)) i ⌝ }
 {
     if i + 3 < r.len() {
@@ -94,14 +94,13 @@ pub fn cause_of(r: &[u8]) -> u32
 
 // "bytes 4-19 four u32 measurements, pollutant 1 first"
 pub fn measurement_of(r: &[u8], p: u32) -> u32
-    requires { ⌜ p < 5 ⌝ }
     ensures { λ n. ⌜ n ≡ measurement (now (r .entry)) p ⌝ }
 {
     u32_at(r, 4 * (p as usize))
 }
 
 // Whether x is lo to hi, both counted in.
-pub fn is_within(lo: u32, hi: u32, x: u32) -> bool
+pub(crate) fn is_within(lo: u32, hi: u32, x: u32) -> bool
     ensures { λ b. ⌜ b ≡ within lo hi x ⌝ }
 {
     (lo <= x) & (x <= hi)

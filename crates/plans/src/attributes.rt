@@ -5,7 +5,7 @@ ghost use Rattle.plans.specs.Ranges.{RowRange};
 use plan::Plan;
 
 // "Pass if c ≤ (n−4)/2 rounded down, never at n = 3", "At 19: pass up to 8".
-pub fn passes(n: u64, over: u64) -> bool
+pub(crate) fn passes(n: u64, over: u64) -> bool
     requires { ⌜ RowRange n ⌝ }
     ensures { λ r. ⌜ r ≡ attributesPasses n over ⌝ }
 {
@@ -19,7 +19,7 @@ pub fn passes(n: u64, over: u64) -> bool
 }
 
 // "fail if c ≥ n/2 rounded down + 2", "At 19: .. fail from 9".
-pub fn fails(n: u64, over: u64) -> bool
+pub(crate) fn fails(n: u64, over: u64) -> bool
     requires { ⌜ RowRange n ⌝ }
     ensures { λ r. ⌜ r ≡ attributesFails n over ⌝ }
 {

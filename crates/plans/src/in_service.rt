@@ -10,7 +10,7 @@ use plan::Plan;
 
 const A_AT_LAST_ROW: u64 = 15474;
 
-pub fn passes(n: u64, added: u64, taken: u64, spread: u64) -> bool
+pub(crate) fn passes(n: u64, added: u64, taken: u64, spread: u64) -> bool
     requires { ⌜ Ranges n added taken ⌝ }
     ensures { λ r. ⌜ r ≡ rootPasses (inServiceNumbers n .A) (pos added -ℤ pos taken) (pos spread) ⌝ }
 {
@@ -22,7 +22,7 @@ pub fn passes(n: u64, added: u64, taken: u64, spread: u64) -> bool
 }
 
 // There is no B at 15, where what doesn't pass fails.
-pub fn fails(n: u64, added: u64, taken: u64, spread: u64) -> bool
+pub(crate) fn fails(n: u64, added: u64, taken: u64, spread: u64) -> bool
     requires { ⌜ Ranges n added taken ⌝ }
     ensures { λ r. ⌜ r ≡ rootFails (inServiceNumbers n .B) (pos added -ℤ pos taken) (pos spread) ⌝ }
 {

@@ -14,7 +14,7 @@ const LOGARITHM_UNIT: u64 = 65536;
 const LOG_OF_TWO: u64 = 693147181;
 
 // "Pass if T × 693,147,181 > A × t × 65,536", "A = 3327 − 66(n−3)", "A and B at 32 are −2112".
-pub fn passes(n: u64, added: u64, taken: u64, deviation: u64) -> bool
+pub(crate) fn passes(n: u64, added: u64, taken: u64, deviation: u64) -> bool
     requires { ⌜ Ranges n added taken ⌝ ∗ ⌜ deviation ≤ 4000000 ⌝ }
     ensures { λ r. ⌜ r ≡ knownPasses squarings n (pos added -ℤ pos taken) deviation ⌝ }
 {
@@ -29,7 +29,7 @@ pub fn passes(n: u64, added: u64, taken: u64, deviation: u64) -> bool
 }
 
 // "fail if less than the same with B", "B = −4724 − 66(n−3), and 1 more from n = 10".
-pub fn fails(n: u64, added: u64, taken: u64, deviation: u64) -> bool
+pub(crate) fn fails(n: u64, added: u64, taken: u64, deviation: u64) -> bool
     requires { ⌜ Ranges n added taken ⌝ ∗ ⌜ deviation ≤ 4000000 ⌝ }
     ensures { λ r. ⌜ r ≡ knownFails squarings n (pos added -ℤ pos taken) deviation ⌝ }
 {

@@ -1,6 +1,6 @@
 // A row of each of document 01's four plans: "A row gives pass, fail or open".
 //
-// The functions are open to the crate `standings` alone, which calls them with sums that it has bounded (specs/Ranges).
+// No caller of the library reaches these functions: `standings` alone calls them, within the ranges of specs/Ranges.
 // D is given as two naturals, what is added and what is taken away. W is given as `spread`.
 ghost use mathlib.Core.Path.{_≡_};
 ghost use Prim.Native.Nat.{_≤_};
@@ -38,7 +38,7 @@ fn decide(passes: bool, last: bool, fails: bool) -> Row
     }
 }
 
-// Plan 1, known deviation.
+// Plan 1, known deviation. For `standings` alone, which has bounded the sums and the deviation: so it may require.
 pub fn known_row(n: u64, added: u64, taken: u64, deviation: u64) -> Row
     requires { ⌜ Ranges n added taken ⌝ ∗ ⌜ deviation ≤ 4000000 ⌝ }
     ensures { λ r. ⌜ rowIs r ≡ rules.decide (rules.knownPasses squarings n (pos added -ℤ pos taken) deviation) (eqb n 32)
@@ -51,7 +51,7 @@ pub fn known_row(n: u64, added: u64, taken: u64, deviation: u64) -> Row
     )
 }
 
-// Plan 2, unknown deviation.
+// Plan 2, unknown deviation. For `standings` alone, which has bounded the sums: so it may require.
 pub fn unknown_row(n: u64, added: u64, taken: u64, spread: u64) -> Row
     requires { ⌜ Ranges n added taken ⌝ }
     ensures { λ r. ⌜ rowIs r ≡ rules.decide (rules.rootPasses (rules.unknownNumbers n .A) (pos added -ℤ pos taken) (pos spread)) (eqb n 32)
@@ -64,7 +64,7 @@ pub fn unknown_row(n: u64, added: u64, taken: u64, spread: u64) -> Row
     )
 }
 
-// Plan 3, attributes: `over` is the number of engines over the limit.
+// Plan 3, attributes: `over` is the number of engines over the limit. For `standings` alone, which walks rows 3 to the last: so it may require.
 pub fn attributes_row(n: u64, over: u64) -> Row
     requires { ⌜ RowRange n ⌝ }
     ensures { λ r. ⌜ rowIs r ≡ rules.decide (rules.attributesPasses n over) (eqb n 19) (rules.attributesFails n over) ⌝ }
@@ -76,7 +76,7 @@ pub fn attributes_row(n: u64, over: u64) -> Row
     )
 }
 
-// Plan 4, in service.
+// Plan 4, in service. For `standings` alone, which has bounded the sums: so it may require.
 pub fn in_service_row(n: u64, added: u64, taken: u64, spread: u64) -> Row
     requires { ⌜ Ranges n added taken ⌝ }
     ensures { λ r. ⌜ rowIs r ≡ rules.decide (rules.rootPasses (rules.inServiceNumbers n .A) (pos added -ℤ pos taken) (pos spread)) (eqb n 15)

@@ -24,7 +24,7 @@ fn line(x: u64, spread: u64) -> Wide
 }
 
 // For A = −a below 0: "P ≤ A√W means P ≤ 0 and P² ≥ A²W".
-pub fn at_most_negative(a: u64, added: u64, taken: u64, spread: u64) -> bool
+pub(crate) fn at_most_negative(a: u64, added: u64, taken: u64, spread: u64) -> bool
     requires { ⌜ RootRanges a added taken ⌝ ∗ ⌜ 1 ≤ a ⌝ }
     ensures { λ r. ⌜ r ≡ rootPasses (negℤ (pos a)) (pos added -ℤ pos taken) (pos spread) ⌝ }
 {
@@ -36,7 +36,7 @@ pub fn at_most_negative(a: u64, added: u64, taken: u64, spread: u64) -> bool
 }
 
 // "for A ≥ 0, P ≤ 0 or P² ≤ A²W".
-pub fn at_most(a: u64, added: u64, taken: u64, spread: u64) -> bool
+pub(crate) fn at_most(a: u64, added: u64, taken: u64, spread: u64) -> bool
     requires { ⌜ RootRanges a added taken ⌝ }
     ensures { λ r. ⌜ r ≡ rootPasses (pos a) (pos added -ℤ pos taken) (pos spread) ⌝ }
 {
@@ -48,7 +48,7 @@ pub fn at_most(a: u64, added: u64, taken: u64, spread: u64) -> bool
 }
 
 // "P ≥ B√W means P ≥ 0 and P² ≥ B²W".
-pub fn at_least(b: u64, added: u64, taken: u64, spread: u64) -> bool
+pub(crate) fn at_least(b: u64, added: u64, taken: u64, spread: u64) -> bool
     requires { ⌜ RootRanges b added taken ⌝ }
     ensures { λ r. ⌜ r ≡ rootFails (pos b) (pos added -ℤ pos taken) (pos spread) ⌝ }
 {

@@ -75,7 +75,7 @@ const B: [u32; 30] = [
     0,
 ];
 
-pub fn a(n: u64) -> u64
+pub(crate) fn a(n: u64) -> u64
     requires { ⌜ RowRange n ⌝ }
     ensures value { λ r. ⌜ negℤ (pos r) ≡ unknownNumbers n .A ⌝ }
     ensures range { λ r. ⌜ (1 ≤ r) × (r ≤ 1664743) ⌝ }
@@ -83,7 +83,7 @@ pub fn a(n: u64) -> u64
     A[(n - 3) as usize] as u64
 }
 
-pub fn b(n: u64) -> u64
+pub(crate) fn b(n: u64) -> u64
     requires { ⌜ RowRange n ⌝ }
     ensures value { λ r. ⌜ pos r ≡ unknownNumbers n .B ⌝ }
     ensures range { λ r. ⌜ r ≤ 1664743 ⌝ }
@@ -92,7 +92,7 @@ pub fn b(n: u64) -> u64
 }
 
 // A is below 0 in every row, so only a D that is not above 0 passes; the table is looked at where it can decide.
-pub fn passes(n: u64, added: u64, taken: u64, spread: u64) -> bool
+pub(crate) fn passes(n: u64, added: u64, taken: u64, spread: u64) -> bool
     requires { ⌜ Ranges n added taken ⌝ }
     ensures { λ r. ⌜ r ≡ rootPasses (unknownNumbers n .A) (pos added -ℤ pos taken) (pos spread) ⌝ }
 {
@@ -103,7 +103,7 @@ pub fn passes(n: u64, added: u64, taken: u64, spread: u64) -> bool
 }
 
 // Only a D that is not below 0 fails.
-pub fn fails(n: u64, added: u64, taken: u64, spread: u64) -> bool
+pub(crate) fn fails(n: u64, added: u64, taken: u64, spread: u64) -> bool
     requires { ⌜ Ranges n added taken ⌝ }
     ensures { λ r. ⌜ r ≡ rootFails (unknownNumbers n .B) (pos added -ℤ pos taken) (pos spread) ⌝ }
 {

@@ -110,7 +110,7 @@ fn statistics(plan: Plan, n: u64, sum: u64, squares: u64, level: u32, deviation:
     }
 }
 
-// The same where the row looks at the pollutant.
+// The same where the row looks at the pollutant. For `series` alone, which keeps the sums within `InRow`: so it may require.
 pub fn row(
     looks: bool,
     plan: Plan,
@@ -154,6 +154,7 @@ impl Standing {
     }
 
     // With one more measurement, of which nothing is computed where no row will look at the pollutant.
+    // For `series` alone, which adds at most 32: so it may require.
     pub fn with(self, plan: Plan, x: u32) -> Standing
         requires { ⌜ Keeps 31 self ⌝ }
         ensures { λ s. ⌜ s ≡ added plan self x ⌝ }

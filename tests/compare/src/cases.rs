@@ -2,8 +2,8 @@
 //! awkward sizes.
 
 use crate::memory::{Edge, Lender};
-use crate::random::Random;
 use crate::tally::hexadecimal;
+use random::Random;
 use second::{append, report, Refusal, RECORD, REPORT};
 use std::fmt;
 use std::ops::ControlFlow;

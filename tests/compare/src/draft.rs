@@ -1,6 +1,6 @@
 //! A sheet in the making, as document 01's records describe it.
 
-use crate::random::Random;
+use random::Random;
 use second::{judge, last_row, Judgement, Verdict, CORRECT, RECORD};
 
 pub const LARGEST: u32 = 9_999_999;

@@ -9,7 +9,7 @@
 
 use crate::draft::{Draft, Pollutant, LARGEST};
 use crate::pairs::{Cell, Line};
-use crate::random::Random;
+use random::Random;
 use second::{fail_number, logarithm, pass_number, Verdict, CORRECT};
 
 /// How many sets of d_j are tried for one series.

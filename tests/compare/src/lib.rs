@@ -10,7 +10,6 @@ pub mod exact;
 pub mod memory;
 pub mod pairs;
 pub mod promises;
-pub mod random;
 pub mod refusals;
 pub mod seconds;
 pub mod seen;

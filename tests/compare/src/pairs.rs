@@ -12,8 +12,8 @@
 
 use crate::cases::Report;
 use crate::draft::{Draft, Pollutant, LARGEST};
-use crate::random::Random;
 use crate::seconds;
+use random::Random;
 use second::variants::ENTRY_COLUMNS;
 use second::{last_row, Verdict, CORRECT, REPORT};
 

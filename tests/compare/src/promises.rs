@@ -3,8 +3,8 @@
 //! measurements never make a pass later or a fail sooner.
 
 use crate::draft::{random_draft, Draft};
-use crate::random::Random;
 use crate::tally::Tally;
+use random::Random;
 use second::{check, judge, last_row, Judgement, Verdict, CORRECT, RECORD};
 
 /// Looks at `count` accepted sheets and prints how often each promise was put to the test.

@@ -2,7 +2,7 @@
 //! sheet.
 
 use crate::draft::stop_record;
-use crate::random::Random;
+use random::Random;
 use second::{last_row, CORRECT, LONGEST_SHEET, RECORD};
 
 /// One way to a refusal. `spoil` tells whether the sheet had a place for it.

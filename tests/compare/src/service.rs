@@ -2,7 +2,7 @@
 //! place, referral, and rows left open.
 
 use crate::draft::{Draft, Pollutant};
-use crate::random::Random;
+use random::Random;
 
 const LIMIT: u32 = 1000;
 const GROSS: u32 = 1501;

@@ -6,31 +6,16 @@
 use compare::cases::{visit_cases, Case, Operations, Report, Sizes};
 use compare::corpus::{Corpus, Origin, Scale, FULL, QUICK};
 use compare::memory::{Boxes, Edge, Pages};
-use compare::random::Random;
 use compare::refusals::WAYS;
 use compare::seen::{print_exact, print_lines, Seen};
 use compare::tally::Tally;
 use compare::{promises, seconds};
+use entries::{conformity_append, conformity_report};
+use random::Random;
 use second::variants::{ENTRIES_END, ENTRY_COLUMNS, VARIANTS};
 use second::{check, CORRECT, REPORT};
 use std::ops::ControlFlow;
 use std::process::ExitCode;
-
-extern "C" {
-    fn conformity_append(
-        buffer: *mut u8,
-        buffer_length: usize,
-        used: usize,
-        record: *const u8,
-        record_length: usize,
-    ) -> u32;
-    fn conformity_report(
-        sheet: *const u8,
-        sheet_length: usize,
-        output: *mut u8,
-        output_length: usize,
-    ) -> u32;
-}
 
 // SAFETY of both calls: every pointer is that of a slice, and its length goes with it.
 const LIBRARY: Operations = Operations {

@@ -7,23 +7,13 @@
 
 use compare::corpus::{Corpus, Scale, FULL, QUICK};
 use compare::memory::{Boxes, Edge, Lender, Pages};
-use compare::random::Random;
 use compare::tally::Tally;
+use entries::{probe_evidence, probe_lines, probe_logarithm};
+use random::Random;
 use second::variants::{self, PROBE_VARIANTS};
 use second::{evidence, lines, logarithm, CORRECT};
 use std::ops::ControlFlow;
 use std::process::ExitCode;
-
-extern "C" {
-    fn probe_logarithm(m: u32) -> u32;
-    fn probe_evidence(sheet: *const u8, sheet_length: usize) -> usize;
-    fn probe_lines(
-        sheet: *const u8,
-        sheet_length: usize,
-        output: *mut u8,
-        output_length: usize,
-    ) -> usize;
-}
 
 /// The room that the longest lines fit into.
 const LINES: usize = 64;

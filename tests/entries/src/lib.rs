@@ -1,0 +1,26 @@
+//! The C entries of the delivered libraries: those of `include/conformity.h`, and those that crate
+//! `probe` has for tests. A build script says which program links which library.
+
+extern "C" {
+    pub fn conformity_append(
+        buffer: *mut u8,
+        buffer_length: usize,
+        used: usize,
+        record: *const u8,
+        record_length: usize,
+    ) -> u32;
+    pub fn conformity_report(
+        sheet: *const u8,
+        sheet_length: usize,
+        output: *mut u8,
+        output_length: usize,
+    ) -> u32;
+    pub fn probe_logarithm(m: u32) -> u32;
+    pub fn probe_evidence(sheet: *const u8, sheet_length: usize) -> usize;
+    pub fn probe_lines(
+        sheet: *const u8,
+        sheet_length: usize,
+        output: *mut u8,
+        output_length: usize,
+    ) -> usize;
+}
