@@ -12,7 +12,7 @@ fn code(outcome: Outcome) -> u32
 {
     match outcome {
         Outcome::Done => 0,
-        Outcome::Refused(refusal) => refusal.number as u32 * 256 + refusal.place as u32,
+        Outcome::Refused(refusal) => refusal.code(),
     }
 }
 

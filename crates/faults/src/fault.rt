@@ -96,7 +96,7 @@ fn exceeds(limit: u32, x: u32) -> bool
 }
 
 // "A gross emitter is a vehicle with 2x > 3L for some pollutant"
-pub fn is_gross(limits: Quantities, r: &[u8]) -> bool
+fn is_gross(limits: Quantities, r: &[u8]) -> bool
     ensures { λ b. ⌜ b ≡ grossBy limits (now (r .entry)) ⌝ }
 {
     exceeds(limits.co, measurement_of(r, 1))

@@ -8,26 +8,25 @@ use mathlib.Core.List.{List, _++_, append-nil}
 use lib.Dec.{ltb, eqb}
 use lib.ListN.{length, take, drop, length-drop, drop-of-length-le}
 use lib.Seq.{take-all, take-length, drop-drop}
-use borrow.Author.Tests.{lt-ltb, le-ltb, ltb-false, eqb-true, eq-eqb, ne-eqb, not-false}
-use Rattle.rules.specs.Sheet.{Record, pollutants, records}
+use borrow.Author.Tests.{lt-ltb, le-ltb, ltb-false, eqb-true, not-false}
+use Rattle.rules.specs.Sheet.{pollutants, records}
 use Rattle.rules.specs.Refusals.{Check, accepted, refused, check}
 use Rattle.rules.specs.Operations.{noRoom, joined, append, appended}
 use Rattle.arithmetic.proofs.Booleans.{or-false}
 use Rattle.faults.specs.declared.Sheet.{Sheet}
 use Rattle.faults.specs.State.{nothing}
-use Rattle.faults.specs.Faults.{faultBy}
 use Rattle.sheet.specs.declared.Refusal.{Refusal}
 use Rattle.sheet.specs.declared.Checked.{Checked}
 use Rattle.sheet.specs.declared.Checked.the-variants as checked
-use Rattle.sheet.specs.Check.{summaryFrom, summary, checkedBy, checkedOf}
-use Rattle.sheet.proofs.Laws.{accepted-sheet, no-records, check-after}
+use Rattle.sheet.specs.Check.{summaryFrom, summary, checkedBy, checkedOf, checkedFrom, AfterRanges}
+use Rattle.sheet.proofs.Laws.{accepted-sheet, no-records, after-ranges, checked-after}
 use Rattle.operations.specs.Outcomes.{checkIs, soFar}
 
 -- ---- the sheet before the record
 
-by-check : (c : Check) (rs : List Record) → checkIs (checkedBy c rs) ≡ c
-by-check accepted rs = refl
-by-check (refused number place) rs = refl
+by-check : (c : Check) (said : Sheet) → checkIs (checkedBy c said) ≡ c
+by-check accepted said = refl
+by-check (refused number place) said = refl
 
 -- what document 01 asks of the sheet before the record
 abbrev before : List ℕ → Check
@@ -38,9 +37,9 @@ unfolding soFar checkedOf
 so-far-check s = cases (eqb (length s) 0)
   where
     cases : (t : Bool)
-        → checkIs (cond t (checked.Sheet nothing) (checkedBy (check pollutants s) (records pollutants s))) ≡ cond t accepted (check pollutants s)
+        → checkIs (cond t (checked.Sheet nothing) (checkedBy (check pollutants s) (summary (records pollutants s)))) ≡ cond t accepted (check pollutants s)
     cases true = refl
-    cases false = by-check (check pollutants s) (records pollutants s)
+    cases false = by-check (check pollutants s) (summary (records pollutants s))
 
 so-far-sheet : (s : List ℕ) {t : Sheet} → soFar s ≡ checked.Sheet t → t ≡ summary (records pollutants s)
 unfolding soFar summaryFrom
@@ -59,22 +58,26 @@ module _ (s r : List ℕ) {c : Checked} (e : c ≡ soFar s) where
       rw (p, q) refl
 
   module _ {t : Sheet} (p : c ≡ checked.Sheet t) (l : length r ≡ 20) where
-    after : joined pollutants s r
-        ≡ cond (ltb 720 (length s)) (refused 1 0) (cond (eqb (faultBy t r) 0) accepted (refused (faultBy t r) (length s / 20)))
-    unfolding joined
+    accepts : before s ≡ accepted
+    accepts = sym (so-far-check s) ∙ ap checkIs (sym e ∙ p)
+
+    after : checkIs (cond (ltb 720 (length s)) (checked.Refused (record { number = 1; place = 0 }))
+        (checkedFrom t (length s / 20) (records pollutants r)))
+        ≡ joined pollutants s r
+    unfolding joined checkedOf
     after =
-        let q : before s ≡ accepted = sym (so-far-check s) ∙ ap checkIs (sym e ∙ p) in
-        rw (q, so-far-sheet s (sym e ∙ p)) (check-after s q r l)
+        rw (accepts, so-far-sheet s (sym e ∙ p), ← checked-after s accepts r l)
+        (by-check (check pollutants (s ++ r)) (summary (records pollutants (s ++ r))))
 
     pub joined-long : 720 < length s → refused 1 0 ≡ joined pollutants s r
-    joined-long h = sym (rw (lt-ltb 720 (length s) h) at after)
+    joined-long h = rw (lt-ltb 720 (length s) h) at after
 
-    module _ (h : length s ≤ 720) {n : ℕ} (f : n ≡ faultBy t r) where
-      pub joined-faulty : (n ≡ 0 → ⊥) → refused n (length s / 20) ≡ joined pollutants s r
-      joined-faulty d = sym (rw (le-ltb 720 (length s) h, ← f, ne-eqb n 0 d) at after)
+    module _ (h : length s ≤ 720) where
+      pub joined-ranges : {k : ℕ} → k ≤ 37 → AfterRanges t k (length r)
+      joined-ranges f = rw (so-far-sheet s (sym e ∙ p)) (after-ranges s accepts h f (omega arith))
 
-      pub joined-fine : n ≡ 0 → accepted ≡ joined pollutants s r
-      joined-fine z = sym (rw (le-ltb 720 (length s) h, ← f, eq-eqb n 0 z) at after)
+      pub joined-after : {d : Checked} → d ≡ checkedFrom t (length s / 20) (records pollutants r) → checkIs d ≡ joined pollutants s r
+      joined-after f = ap checkIs f ∙ (rw (le-ltb 720 (length s) h) at after)
 
 -- ---- the buffer
 

@@ -12,7 +12,6 @@ ghost use Rattle.series.specs.Answers.{judgementIs};
 ghost use Rattle.operations.specs.Outcomes.{outcomeIs, checkIs, judgedCheck, soFar};
 ghost use Rattle.operations.specs.Values.{verdictNumber, groundOf, engineOf, decisionIn, pairEngine};
 use faults::Sheet;
-use faults::fault::fault_of;
 use series::Judged;
 use series::Judgement;
 use series::Verdict;
@@ -20,6 +19,7 @@ use series::judge;
 use sheet::Checked;
 use sheet::Refusal;
 use sheet::check;
+use sheet::check_after;
 use standings::Decision;
 
 pub enum Outcome {
@@ -83,14 +83,7 @@ fn joined(sheet: &[u8], r: &[u8]) -> Outcome
     if Sheet::LONGEST - Sheet::RECORD < sheet.len() {
         return refused(1);
     }
-    let fault = fault_of(before, r);
-    if fault != 0 {
-        return Outcome::Refused(Refusal {
-            number: fault,
-            place: (sheet.len() / Sheet::RECORD) as u8,
-        });
-    }
-    Outcome::Done
+    checked_outcome(check_after(before, sheet.len() / Sheet::RECORD, r))
 }
 
 // "Append adds a record to the sheet in the first u bytes of a lent buffer."

@@ -58,7 +58,7 @@ module _ (b : List ℕ) where
 
     limits-are : limits ≡ summary rs .limits
     unfolding checkedOf
-    limits-are = l ∙ ap (λ (c : Check). limitsIn (checkedBy c rs)) accepts
+    limits-are = l ∙ ap (λ (c : Check). limitsIn (checkedBy c (summary rs))) accepts
 
     declaring : (p : ℕ) → declares (declared rs) p ≡ not (eqb (quantity limits p) 0)
     declaring p = rw limits-are (laws.agrees b accepts .declaredIs .declaring p)

@@ -3,7 +3,8 @@ ghost use mathlib.Core.Path.{_≡_};
 ghost use lib.ListN.{length};
 ghost use Rattle.rules.specs.Logarithm.{squarings, g};
 ghost use Rattle.rules.specs.Sheet.{pollutants};
-ghost use Rattle.rules.specs.Operations.{evidence};
+ghost use Rattle.rules.specs.Refusals as refusals;
+ghost use Rattle.rules.specs.Operations as rules;
 ghost use Rattle.rules.specs.Printed.{printed};
 ghost use Rattle.probe.specs.Placed.{placed};
 
@@ -15,12 +16,13 @@ pub extern "C" fn probe_logarithm(m: u32) -> u32
     logarithm::log2(m)
 }
 
-// How many bytes of the sheet are its evidence: size_t probe_evidence(const uint8_t *sheet, size_t sheet_length)
+// How many bytes of the sheet are its evidence, and at code the refusal: size_t probe_evidence(const uint8_t *sheet, size_t sheet_length, uint32_t *code)
 #[no_mangle]
-pub extern "C" fn probe_evidence(sheet: &[u8]) -> usize
-    ensures { λ r. ⌜ r ≡ length (evidence pollutants squarings (now (sheet .entry))) ⌝ }
+pub extern "C" fn probe_evidence(sheet: &[u8], code: &mut u32) -> usize
+    ensures { λ r. ⌜ r ≡ length (rules.evidence pollutants squarings (now (sheet .entry))) ⌝ }
+    ensures { λ _. ⌜ now (code .exit) ≡ rules.code (refusals.check pollutants (now (sheet .entry))) ⌝ }
 {
-    let part = series::evidence(sheet);
+    let part = series::evidence(sheet, code);
     part.len()
 }
 

@@ -11,7 +11,8 @@ use Rattle.rules.specs.Tools.{any, all}
 use Rattle.rules.specs.Sheet.{Record, Pollutant, pollutants, records, ofKind, engines, stopped, planNumber, declared}
 use Rattle.rules.specs.Plans as plans
 use Rattle.rules.specs.Series as rules
-use Rattle.rules.specs.Operations.{judge, evidenceBy, evidence}
+use Rattle.rules.specs.Refusals.{check}
+use Rattle.rules.specs.Operations.{judge, evidenceBy, evidence, code}
 use Rattle.faults.specs.declared.Sheet.{Sheet}
 use Rattle.sheet.specs.declared.Refusal.{Refusal}
 use Rattle.sheet.specs.declared.Checked.{Checked}
@@ -38,6 +39,9 @@ module _ (b : List ℕ) {c : Checked} {f : Refusal} (e : c ≡ checkedOf b) (r :
   pub evidence-refused : [] ≡ evidence pollutants squarings b
   unfolding evidence
   evidence-refused = rw (← judge-refused) refl
+
+  pub code-refused : f .number * 256 + f .place ≡ code (check pollutants b)
+  code-refused = rw (laws.refused-sheet b (sym e ∙ r)) refl
 
 -- ---- a decision's engine is among those tested
 

@@ -6,6 +6,7 @@ ghost use Rattle.rules.specs.Logarithm.{squarings};
 ghost use Rattle.rules.specs.Sheet.{pollutants, records};
 ghost use Rattle.rules.specs.Plans.{lastRow};
 ghost use Rattle.rules.specs.Series.{judgeRecords};
+ghost use Rattle.rules.specs.Refusals as refusals;
 ghost use Rattle.rules.specs.Operations as rules;
 ghost use Rattle.plan.specs.Plan.{planIs};
 ghost use Rattle.series.specs.Progress.{startedAll, addedAll, lookedAll, anyFailed, anyWaits, causedBefore, emittersWith, beforeBy, judgementOf, settledBy, turnBy, nextTurn, ending, KeepsAll, InRowAll, NextRanges, Valid};
@@ -429,14 +430,17 @@ fn evidence_length(verdict: Verdict, length: usize, pollutants: u32) -> usize
     }
 }
 
-// "Evidence hands back the part of the sheet from its start", of a refused sheet an empty one.
-pub fn evidence(bytes: &[u8]) -> &[u8]
+// "Evidence hands back the part of the sheet from its start"; a refusal "as judge, with an empty part": code gets its number × 256 + record, and 0 of an accepted sheet.
+pub fn evidence<'a>(bytes: &'a [u8], code: &mut u32) -> &'a [u8]
     ensures { λ r. ⌜ now r ≡ rules.evidence pollutants squarings (now (bytes .entry)) ⌝ }
+    ensures { λ _. ⌜ now (code .exit) ≡ rules.code (refusals.check pollutants (now (bytes .entry))) ⌝ }
 {
     let checked = check(bytes);
     let Checked::Sheet(sheet) = checked else {
+        *code = refusal(checked).code();
         return &bytes[..0];
     };
+    *code = 0;
     let judgement = walk(bytes, sheet);
     let verdict = judgement.verdict;
     let end = evidence_length(verdict, bytes.len(), sheet.pollutants);

@@ -1,17 +1,15 @@
 -- What an accepted sheet says, and the check of a sheet with a record after it.
 use Prim.Native.Nat.{ℕ, _+_, _/_, _%_, _≤_}
-use native.Mathlib.Nat.{le-of-eq}
 use native.Mathlib.Omega.{arith}
 use mathlib.Core.Path.{_≡_, refl, ap, _∙_}
 use mathlib.Core.Bool.{Bool, true, false, not, _||_, cond}
 use mathlib.Core.List.{List, [], _∷_, _++_, append-nil, append-assoc}
 use lib.Dec.{ltb, eqb}
 use lib.ListN.{length, length-append}
-use lib.Seq.{take-all}
 use borrow.Author.Tests.{eqb-true, eqb-false, ne-eqb, not-false, ltb-false}
 use Rattle.rules.specs.Sheet.{Record, pollutants, records, cut}
 use Rattle.rules.specs.Plans.{planOf, lastRow}
-use Rattle.rules.specs.Refusals.{faultOf, Check, accepted, refused, checkFrom, badLength, check}
+use Rattle.rules.specs.Refusals.{Check, accepted, refused, checkFrom, badLength, check}
 use Rattle.arithmetic.proofs.Booleans.{never, or-false}
 use Rattle.arithmetic.proofs.Order.{ltb-same}
 use Rattle.accepted.proofs.Records.{records-append, length-records}
@@ -19,30 +17,29 @@ use Rattle.accepted.proofs.Faultless.{Clean, clean-of, cond-accepted, check-cle
 use Rattle.accepted.proofs.Engines.{counts}
 use Rattle.faults.specs.declared.Sheet.{Sheet}
 use Rattle.faults.specs.State.{nothing, sheetWith}
-use Rattle.faults.specs.Faults.{faultBy}
-use Rattle.faults.proofs.Agreement.{isEmpty, Agrees, start, step, fault-agrees}
+use Rattle.faults.proofs.Agreement.{isEmpty, Agrees, start, step}
 use Rattle.sheet.specs.declared.Refusal.{Refusal}
 use Rattle.sheet.specs.declared.Checked.the-variants as checked
-use Rattle.sheet.specs.Check.{summaryFrom, summary, checkedBy, checkedOf}
-use Rattle.sheet.proofs.Progress.{summary-snoc}
+use Rattle.sheet.specs.Check.{summaryFrom, summary, checkedBy, checkedOf, checkedFrom, AfterRanges}
+use Rattle.sheet.proofs.Progress.{summary-append, checked-from}
 
 -- ---- the program's answer and document 01's
 
-by-sheet : (c : Check) (rs : List Record) {t : Sheet} → checkedBy c rs ≡ checked.Sheet t → (c ≡ accepted) × (t ≡ summary rs)
-by-sheet accepted rs e = (refl, cc)
-by-sheet (refused number place) rs e = let z : true ≡ false = cc in never z
+by-sheet : (c : Check) (said : Sheet) {t : Sheet} → checkedBy c said ≡ checked.Sheet t → (c ≡ accepted) × (t ≡ said)
+by-sheet accepted said e = (refl, cc)
+by-sheet (refused number place) said e = let z : true ≡ false = cc in never z
 
-by-refusal : (c : Check) (rs : List Record) {f : Refusal} → checkedBy c rs ≡ checked.Refused f → c ≡ refused (f .number) (f .place)
-by-refusal accepted rs e = let z : true ≡ false = cc in never z
-by-refusal (refused number place) rs e = cc
+by-refusal : (c : Check) (said : Sheet) {f : Refusal} → checkedBy c said ≡ checked.Refused f → c ≡ refused (f .number) (f .place)
+by-refusal accepted said e = let z : true ≡ false = cc in never z
+by-refusal (refused number place) said e = cc
 
 pub accepted-sheet : (b : List ℕ) {t : Sheet} → checkedOf b ≡ checked.Sheet t → (check pollutants b ≡ accepted) × (t ≡ summary (records pollutants b))
 unfolding checkedOf
-accepted-sheet b e = by-sheet (check pollutants b) (records pollutants b) e
+accepted-sheet b e = by-sheet (check pollutants b) (summary (records pollutants b)) e
 
 pub refused-sheet : (b : List ℕ) {f : Refusal} → checkedOf b ≡ checked.Refused f → check pollutants b ≡ refused (f .number) (f .place)
 unfolding checkedOf
-refused-sheet b e = by-refusal (check pollutants b) (records pollutants b) e
+refused-sheet b e = by-refusal (check pollutants b) (summary (records pollutants b)) e
 
 -- ---- the length
 
@@ -54,6 +51,17 @@ length-fine n e =
     let d = eqb-false n 0 (q .0) in
     (omega arith, (eqb-true (n % 20) 0 (not-false (eqb (n % 20) 0) (q .1)), ltb-false 740 n (p .1)))
 
+-- ---- a whole sheet stands after nothing
+
+module _ {s : Sheet} (e : s ≡ nothing) where
+  pub whole-ranges : (n : ℕ) → badLength pollutants n ≡ false → AfterRanges s 0 n
+  unfolding nothing
+  whole-ranges n f = rw e (record { pollutants = omega arith; engines = omega arith; place = omega arith; length = length-fine n f .1 .1 })
+
+  pub whole-checked : (b : List ℕ) → badLength pollutants (length b) ≡ false → checkedFrom s 0 (records pollutants b) ≡ checkedOf b
+  unfolding checkedOf check
+  whole-checked b f = rw (e, f) (checked-from [] (records pollutants b) nothing start)
+
 -- ---- an accepted sheet
 
 agrees-from : (before rs : List Record) (s : Sheet) → Agrees before s → Clean pollutants before rs → Agrees (before ++ rs) (summaryFrom s rs)
@@ -63,6 +71,14 @@ agrees-from before (r ∷ rs) s a c = rw append-assoc at (agrees-from (before ++
 
 pub agrees-clean : (rs : List Record) → Clean pollutants [] rs → Agrees rs (summary rs)
 agrees-clean rs c = agrees-from [] rs nothing start c
+
+counts-clean : (b : List ℕ) → Clean pollutants [] (records pollutants b)
+    → summary (records pollutants b) .pollutants + summary (records pollutants b) .engines ≤ length b / 20
+counts-clean b c =
+    let a = agrees-clean (records pollutants b) c in
+    let p = a .pollutantsIs in
+    let q = a .enginesIs in
+    omega (arith, counts pollutants (records pollutants b) c, length-records pollutants b)
 
 module _ (b : List ℕ) (e : check pollutants b ≡ accepted) where
   parts : (badLength pollutants (length b) ≡ false) × (checkFrom pollutants [] (records pollutants b) ≡ accepted)
@@ -82,10 +98,7 @@ module _ (b : List ℕ) (e : check pollutants b ≡ accepted) where
   agrees = agrees-clean (records pollutants b) clean
 
   pub counts-fit : summary (records pollutants b) .pollutants + summary (records pollutants b) .engines ≤ length b / 20
-  counts-fit =
-      let p = agrees .pollutantsIs in
-      let q = agrees .enginesIs in
-      omega (arith, counts pollutants (records pollutants b) clean, length-records pollutants b)
+  counts-fit = counts-clean b clean
 
   pub plan-range : (1 ≤ summary (records pollutants b) .plan) × (summary (records pollutants b) .plan ≤ 4)
   plan-range =
@@ -102,10 +115,6 @@ module _ (b : List ℕ) (e : check pollutants b ≡ accepted) where
 
 -- ---- a record after a sheet that is accepted or has no bytes
 
-one-record : (r : List ℕ) → length r ≡ 20 → records pollutants r ≡ r ∷ []
-unfolding records cut
-one-record r l = rw l (ap (λ (x : Record). x ∷ []) (take-all 20 r (le-of-eq l)))
-
 pub no-records : (b : List ℕ) → length b ≡ 0 → records pollutants b ≡ []
 unfolding records cut
 no-records b z = rw z refl
@@ -116,6 +125,11 @@ unfolding badLength
 longer n w =
     let m : (n + 20) % 20 ≡ 0 = omega arith in
     rw (ne-eqb (n + 20) 0 (omega arith), m) (ltb-same 740 (n + 20) 720 n ((λ h. omega arith), (λ h. omega arith)))
+
+refused-or : (t : Bool) (c : Check) (said : Sheet)
+    → checkedBy (cond t (refused 1 0) c) said ≡ cond t (checked.Refused (record { number = 1; place = 0 })) (checkedBy c said)
+refused-or true c said = refl
+refused-or false c said = refl
 
 module _ (b : List ℕ) (e : cond (eqb (length b) 0) accepted (check pollutants b) ≡ accepted) where
   so-far : (length b % 20 ≡ 0) × Clean pollutants [] (records pollutants b)
@@ -128,21 +142,28 @@ module _ (b : List ℕ) (e : cond (eqb (length b) 0) accepted (check pollutants 
           (omega arith, rw (no-records b z) tt)
       cases false q h = (whole b h, clean b h)
 
-  module _ (r : List ℕ) (l : length r ≡ 20) where
-    joined : records pollutants (b ++ r) ≡ records pollutants b ++ (r ∷ [])
-    joined = records-append pollutants b r (so-far .0) ∙ ap (λ (rs : List Record). records pollutants b ++ rs) (one-record r l)
+  pub after-ranges : length b ≤ 720 → {k n : ℕ} → k ≤ 37 → n ≤ 740 → AfterRanges (summary (records pollutants b)) k n
+  after-ranges h p l =
+      let c = counts-clean b (so-far .1) in
+      record { pollutants = omega arith; engines = omega arith; place = p; length = l }
 
-    pub summary-after : summary (records pollutants (b ++ r)) ≡ sheetWith (summary (records pollutants b)) r
-    summary-after = rw joined (summary-snoc nothing (records pollutants b) r)
-
-    pub check-after : check pollutants (b ++ r)
-        ≡ cond (ltb 720 (length b)) (refused 1 0)
-        (cond (eqb (faultBy (summary (records pollutants b)) r) 0) accepted
-        (refused (faultBy (summary (records pollutants b)) r) (length b / 20)))
-    unfolding check checkFrom
-    check-after =
-        let n : length (b ++ r) ≡ length b + 20 = length-append b r ∙ ap (λ (x : ℕ). length b + x) l in
-        let f : faultBy (summary (records pollutants b)) r ≡ faultOf pollutants (records pollutants b) r =
-        fault-agrees (agrees-clean (records pollutants b) (so-far .1)) r in
-        rw (n, longer (length b) (so-far .0), joined, check-clean pollutants [] (records pollutants b) (r ∷ []) (so-far .1), f, length-records pollutants b)
-        refl
+  pub checked-after : (r : List ℕ) → length r ≡ 20
+      → checkedOf (b ++ r)
+      ≡ cond (ltb 720 (length b)) (checked.Refused (record { number = 1; place = 0 }))
+      (checkedFrom (summary (records pollutants b)) (length b / 20) (records pollutants r))
+  unfolding checkedOf check
+  checked-after r l =
+      let rs = records pollutants b in
+      let n : length (b ++ r) ≡ length b + 20 = length-append b r ∙ ap (λ (x : ℕ). length b + x) l in
+      let f : checkedFrom (summary rs) (length b / 20) (records pollutants r)
+      ≡ checkedBy (checkFrom pollutants rs (records pollutants r)) (summaryFrom (summary rs) (records pollutants r)) =
+      rw (length-records pollutants b) at (checked-from rs (records pollutants r) (summary rs) (agrees-clean rs (so-far .1))) in
+      rw (
+        n,
+        longer (length b) (so-far .0),
+        records-append pollutants b r (so-far .0),
+        check-clean pollutants [] rs (records pollutants r) (so-far .1),
+        summary-append nothing rs (records pollutants r),
+        f,
+      )
+      (refused-or (ltb 720 (length b)) _ _)

@@ -1,86 +1,113 @@
--- The check after k records: what is left to check is the answer.
+-- The check of records after others, a record at a time: what is left to check is the answer, and the answer is document 01's.
 use Prim.Native.Nat.{ℕ, suc, _+_, _*_, _/_, _≤_, _<_}
-use native.Mathlib.Nat.{le-of-lt}
+use native.Mathlib.Nat.{add-zero, add-suc}
 use native.Mathlib.Numerals.{add-one}
 use native.Mathlib.Omega.{arith}
 use mathlib.Core.Path.{_≡_, refl, sym, ap, _∙_}
+use mathlib.Core.Bool.{Bool, true, false, cond}
 use mathlib.Core.List.{List, [], _∷_, _++_}
 use lib.Dec.{eqb}
-use lib.ListN.{length, getD, take, drop, drop-of-length-le}
-use lib.Seq.{take-suc, drop-cons, take-all, length-take-le}
-use borrow.Author.Tests.{ne-eqb}
-use Rattle.rules.specs.Sheet.{Record, pollutants, records, kind, ofKind}
-use Rattle.rules.specs.Refusals.{faultOf, checkFrom}
-use Rattle.arithmetic.proofs.Lists.{length-those}
+use lib.ListN.{length, length-append, take, drop, drop-of-length-le}
+use lib.Seq.{drop-cons}
+use borrow.Author.Tests.{eqb-true, ne-eqb}
+use Rattle.rules.specs.Sheet.{Record, pollutants, records, kind}
+use Rattle.rules.specs.Refusals.{faultOf, refused, checkFrom}
 use Rattle.accepted.proofs.Records.{record-at, length-records}
 use Rattle.faults.specs.declared.Sheet.{Sheet}
-use Rattle.faults.specs.State.{nothing, sheetWith, Room}
+use Rattle.faults.specs.State.{sheetWith, withPollutant, withEngine, withStop, Room}
 use Rattle.faults.specs.Faults.{faultBy}
-use Rattle.faults.proofs.Agreement.{Agrees, start, step, fault-agrees}
+use Rattle.faults.proofs.Agreement.{Agrees, step, fault-agrees}
 use Rattle.sheet.specs.declared.Checked.the-variants as checked
-use Rattle.sheet.specs.Check.{summaryFrom, summary, checkedBy}
+use Rattle.sheet.specs.Check.{summaryFrom, checkedBy, checkedFrom, AfterRanges}
 
-pub summary-snoc : (s : Sheet) (rs : List Record) (r : Record) → summaryFrom s (rs ++ (r ∷ [])) ≡ sheetWith (summaryFrom s rs) r
+pub summary-append : (s : Sheet) (rs ts : List Record) → summaryFrom s (rs ++ ts) ≡ summaryFrom (summaryFrom s rs) ts
 unfolding summaryFrom
-summary-snoc s [] r = refl
-summary-snoc s (a ∷ rs) r = summary-snoc (sheetWith s a) rs r
+summary-append s [] ts = refl
+summary-append s (r ∷ rs) ts = summary-append (sheetWith s r) rs ts
 
-pub record Progress (rs : List Record) (k : ℕ) (s : Sheet) : Type 0 where
-  pub summed : s ≡ summary (take k rs)
-  pub agreed : Agrees (take k rs) s
-  pub left : checkFrom pollutants (take k rs) (drop k rs) ≡ checkFrom pollutants [] rs
+-- a record adds at most one to each count
+counted : (s : Sheet) (r : Record) → (sheetWith s r .pollutants ≤ suc (s .pollutants)) × (sheetWith s r .engines ≤ suc (s .engines))
+unfolding sheetWith withPollutant withEngine withStop
+counted s r = cases (eqb (kind r) 1) (eqb (kind r) 2)
+  where
+    cases : (x y : Bool) → let t = cond x (withPollutant s r) (cond y (withEngine s) (withStop s)) in (t .pollutants ≤ suc (s .pollutants)) × (t .engines ≤ suc (s .engines))
+    cases true y = (omega arith, omega arith)
+    cases false true = (omega arith, omega arith)
+    cases false false = (omega arith, omega arith)
 
-pub begin : (rs : List Record) {s : Sheet} → s ≡ nothing → Progress rs 0 s
-unfolding summaryFrom
-begin rs e = rw e (record { summed = refl; agreed = start; left = refl })
+-- ---- document 01's answer
 
-pub done : (b : List ℕ) (k : ℕ) {s : Sheet} → Progress (records pollutants b) k s → length b / 20 ≤ k
-    → checked.Sheet s ≡ checkedBy (checkFrom pollutants [] (records pollutants b)) (records pollutants b)
-unfolding checkFrom
-done b k g h =
-    let rs = records pollutants b in
-    let m : length rs ≤ k = rw (length-records pollutants b) h in
-    rw (g .summed, ← g .left, drop-of-length-le rs m, take-all k rs m) refl
+pub checked-from : (before rs : List Record) (s : Sheet) → Agrees before s
+    → checkedFrom s (length before) rs ≡ checkedBy (checkFrom pollutants before rs) (summaryFrom s rs)
+unfolding checkedFrom checkFrom summaryFrom
+checked-from before [] s a = refl
+checked-from before (r ∷ rs) s a =
+    rw (fault-agrees a r)
+    (cases (eqb (faultOf pollutants before r) 0) refl
+    (λ z. checked-from (before ++ (r ∷ [])) rs (sheetWith s r) (step a r z)))
+  where
+    cases : (t : Bool) → eqb (faultOf pollutants before r) 0 ≡ t
+        → (faultOf pollutants before r ≡ 0 → checkedFrom (sheetWith s r) (length (before ++ (r ∷ []))) rs
+        ≡ checkedBy (checkFrom pollutants (before ++ (r ∷ [])) rs) (summaryFrom (sheetWith s r) rs))
+        → cond t (checkedFrom (sheetWith s r) (suc (length before)) rs)
+        (checked.Refused (record { number = faultOf pollutants before r; place = length before }))
+        ≡ checkedBy (cond t (checkFrom pollutants (before ++ (r ∷ [])) rs) (refused (faultOf pollutants before r) (length before)))
+        (summaryFrom (sheetWith s r) rs)
+    cases true q rest =
+        let longer : length (before ++ (r ∷ [])) ≡ suc (length before) = length-append before (r ∷ []) ∙ add-one (length before) in
+        rw longer at (rest (eqb-true (faultOf pollutants before r) 0 q))
+    cases false q rest = refl
 
-module _ (b : List ℕ) (k : ℕ) {s : Sheet} (g : Progress (records pollutants b) k s) (h : k < length b / 20) where
+-- ---- the loop
+
+pub record Progress (s : Sheet) (first : ℕ) (rs : List Record) (k : ℕ) (reached : Sheet) : Type 0 where
+  pub pollutants : reached .pollutants ≤ s .pollutants + k
+  pub engines : reached .engines ≤ s .engines + k
+  pub left : checkedFrom reached (first + k) (drop k rs) ≡ checkedFrom s first rs
+
+pub begin : (s : Sheet) (first : ℕ) (rs : List Record) → Progress s first rs 0 s
+begin s first rs = record { pollutants = omega arith; engines = omega arith; left = rw add-zero refl }
+
+module _ {s : Sheet} {first : ℕ} (b : List ℕ) (k : ℕ) {t : Sheet} (g : Progress s first (records pollutants b) k t) where
   abbrev rs : List Record
   rs = records pollutants b
 
-  inside : k < length rs
-  inside = rw (length-records pollutants b) h
+  pub done : length b / 20 ≤ k → checked.Sheet t ≡ checkedFrom s first rs
+  unfolding checkedFrom
+  done h =
+      let m : length rs ≤ k = rw (length-records pollutants b) h in
+      rw (drop-of-length-le rs m) at (g .left)
 
-  front : length (take k rs) ≡ k
-  front = length-take-le k rs (le-of-lt inside)
+  module _ (h : k < length b / 20) where
+    pub room : AfterRanges s first (length b) → Room t
+    room a =
+        let p = g .pollutants in
+        let e = g .engines in
+        record { pollutants = omega (arith, a .pollutants, a .length); engines = omega (arith, a .engines, a .length) }
 
-  count : (j : ℕ) → length (ofKind j (take k rs)) ≤ k
-  unfolding ofKind
-  count j = rw front at (length-those (λ r. eqb (kind r) j) (take k rs))
+    module _ {r : Record} {n : ℕ} (e : r ≡ take 20 (drop (20 * k) b)) (f : n ≡ faultBy t r) where
+      split : drop k rs ≡ r ∷ drop (suc k) rs
+      split =
+          let inside : k < length rs = rw (length-records pollutants b) h in
+          drop-cons rs k [] inside ∙ ap (λ (x : Record). x ∷ drop (suc k) rs) (record-at pollutants b k h ∙ sym e)
 
-  pub room : k < 1000 → Room s
-  room u =
-      let p = g .agreed .pollutantsIs in
-      let e = g .agreed .enginesIs in
-      record { pollutants = omega (arith, count 1); engines = omega (arith, count 2) }
+      opened : cond (eqb n 0) (checkedFrom (sheetWith t r) (suc (first + k)) (drop (suc k) rs))
+          (checked.Refused (record { number = n; place = first + k }))
+          ≡ checkedFrom s first rs
+      unfolding checkedFrom
+      opened = rw (split, ← f) at (g .left)
 
-  module _ {r : Record} {n : ℕ} (e : r ≡ take 20 (drop (20 * k) b)) (f : n ≡ faultBy s r) where
-    recordIs : r ≡ getD rs k []
-    recordIs = e ∙ sym (record-at pollutants b k h)
+      pub faulty : (n ≡ 0 → ⊥) → checked.Refused (record { number = n; place = first + k }) ≡ checkedFrom s first rs
+      faulty d = rw (ne-eqb n 0 d) at opened
 
-    faultIs : n ≡ faultOf pollutants (take k rs) (getD rs k [])
-    faultIs = f ∙ ap (λ (x : Record). faultBy s x) recordIs ∙ fault-agrees (g .agreed) (getD rs k [])
-
-    pub faulty : (n ≡ 0 → ⊥) → checked.Refused (record { number = n; place = k }) ≡ checkedBy (checkFrom pollutants [] rs) rs
-    unfolding checkFrom
-    faulty d = rw (← g .left, drop-cons rs k [] inside, ← faultIs, ne-eqb n 0 d, front) refl
-
-    pub next : n ≡ 0 → {t : Sheet} → t ≡ sheetWith s r → Progress rs (k + 1) t
-    unfolding checkFrom
-    next z p =
-        let more : take (suc k) rs ≡ take k rs ++ (getD rs k [] ∷ []) = take-suc rs k [] inside in
-        let fine : faultOf pollutants (take k rs) (getD rs k []) ≡ 0 = sym faultIs ∙ z in
-        rw (p, recordIs, add-one k)
-        (record {
-          summed = rw (more, summary-snoc nothing (take k rs) (getD rs k []), ← g .summed) refl;
-          agreed = rw more (step (g .agreed) (getD rs k []) fine);
-          left = rw more (rw (drop-cons rs k [] inside, fine) at (g .left));
-        })
+      pub next : n ≡ 0 → {u : Sheet} → u ≡ sheetWith t r → Progress s first rs (k + 1) u
+      next z p =
+          let c = counted t r in
+          let x = g .pollutants in
+          let y = g .engines in
+          rw (p, add-one k)
+          (record {
+            pollutants = omega (arith, c .0);
+            engines = omega (arith, c .1);
+            left = rw (z, ← add-suc first k) at opened;
+          })

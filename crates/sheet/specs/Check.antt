@@ -1,10 +1,13 @@
 -- The program's answer to the check: what an accepted sheet says, or its refusal as document 01 has it.
-use Prim.Native.Nat.{ℕ}
+use Prim.Native.Nat.{ℕ, suc, _≤_}
+use mathlib.Core.Bool.{cond}
 use mathlib.Core.List.{List, [], _∷_}
+use lib.Dec.{eqb}
 use Rattle.rules.specs.Sheet.{Record, pollutants, records}
 use Rattle.rules.specs.Refusals.{Check, accepted, refused, check}
 use Rattle.faults.specs.declared.Sheet.{Sheet}
 use Rattle.faults.specs.State.{nothing, sheetWith}
+use Rattle.faults.specs.Faults.{faultBy}
 use Rattle.sheet.specs.declared.Checked.{Checked}
 use Rattle.sheet.specs.declared.Checked.the-variants as checked
 
@@ -16,9 +19,22 @@ summaryFrom s (r ∷ rs) = summaryFrom (sheetWith s r) rs
 abbrev pub summary : List Record → Sheet
 summary rs = summaryFrom nothing rs
 
-abbrev pub checkedBy : Check → List Record → Checked
-checkedBy accepted rs = checked.Sheet (summary rs)
-checkedBy (refused number place) rs = checked.Refused (record { number = number; place = place })
+abbrev pub checkedBy : Check → (said : Sheet) → Checked
+checkedBy accepted s = checked.Sheet s
+checkedBy (refused number place) s = checked.Refused (record { number = number; place = place })
 
 unfoldable pub checkedOf : List ℕ → Checked
-checkedOf b = checkedBy (check pollutants b) (records pollutants b)
+checkedOf b = checkedBy (check pollutants b) (summary (records pollutants b))
+
+-- the answer for the records rs, the first of which is record k, after those of which s tells
+unfoldable pub checkedFrom : Sheet → (k : ℕ) → (rs : List Record) → Checked
+checkedFrom s k [] = checked.Sheet s
+checkedFrom s k (r ∷ rs) =
+    cond (eqb (faultBy s r) 0) (checkedFrom (sheetWith s r) (suc k) rs) (checked.Refused (record { number = faultBy s r; place = k }))
+
+-- what n bytes of records must leave room for after those of which s tells: a sheet has at most 37 records
+pub record AfterRanges (s : Sheet) (k n : ℕ) : Type 0 where
+  pub pollutants : s .pollutants ≤ 37
+  pub engines : s .engines ≤ 37
+  pub place : k ≤ 37
+  pub length : n ≤ 740

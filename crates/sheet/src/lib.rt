@@ -1,11 +1,10 @@
 // The check of a sheet: the first faulty record and in it the lowest refusal number, or what the sheet says.
 ghost use mathlib.Core.Path.{_≡_};
-ghost use mathlib.Core.List.{[]};
-ghost use Prim.Native.Nat.{_≤_};
+ghost use Prim.Native.Nat.{_+_, _*_};
 ghost use lib.ListN.{length};
 ghost use Rattle.rules.specs.Sheet.{pollutants, records};
-ghost use Rattle.rules.specs.Refusals.{badLength, checkFrom};
-ghost use Rattle.sheet.specs.Check.{checkedBy, checkedOf};
+ghost use Rattle.rules.specs.Refusals.{badLength};
+ghost use Rattle.sheet.specs.Check.{checkedFrom, checkedOf, AfterRanges};
 use faults::Sheet;
 use faults::fault::fault_of;
 use faults::field::record_at;
@@ -14,6 +13,15 @@ use faults::field::record_at;
 pub struct Refusal {
     pub number: u8,
     pub place: u8,
+}
+
+impl Refusal {
+    // "number × 256 + record"
+    pub fn code(self) -> u32
+        ensures { λ n. ⌜ n ≡ self .number * 256 + self .place ⌝ }
+    {
+        self.number as u32 * 256 + self.place as u32
+    }
 }
 
 pub enum Checked {
@@ -28,13 +36,15 @@ fn bad_length(n: usize) -> bool
     (n == 0) | (n % Sheet::RECORD != 0) | (Sheet::LONGEST < n)
 }
 
-// "Then the first faulty record, and in it the lowest"
-fn check_records(bytes: &[u8]) -> Checked
-    requires { ⌜ length (now bytes) ≤ 740 ⌝ }
-    ensures { λ c. ⌜ c ≡ checkedBy (checkFrom pollutants [] (records pollutants (now (bytes .entry)))) (records pollutants (now (bytes .entry))) ⌝ }
+// "Then the first faulty record, and in it the lowest", of records that stand after those of which `before` tells; the first of them is record `first`.
+// A whole sheet stands after nothing. One loop for it and for the record that append adds: so the faults are looked for in one place, and the compiler puts them into the loop.
+// For this crate and `operations`, which hand over at most 37 records after at most 37: so it may require.
+pub fn check_after(before: Sheet, first: usize, bytes: &[u8]) -> Checked
+    requires { ⌜ AfterRanges before first (length (now bytes)) ⌝ }
+    ensures { λ c. ⌜ c ≡ checkedFrom before first (records pollutants (now (bytes .entry))) ⌝ }
 {
     let n = bytes.len() / Sheet::RECORD;
-    let mut sheet = Sheet::nothing();
+    let mut sheet = before;
     let mut k: usize = 0;
     while k < n {
         let r = record_at(bytes, k);
@@ -42,7 +52,7 @@ fn check_records(bytes: &[u8]) -> Checked
         if fault != 0 {
             return Checked::Refused(Refusal {
                 number: fault,
-                place: k as u8,
+                place: (first + k) as u8,
             });
         }
         sheet = sheet.with(r);
@@ -60,5 +70,5 @@ pub fn check(bytes: &[u8]) -> Checked
             place: 0,
         });
     }
-    check_records(bytes)
+    check_after(Sheet::nothing(), 0, bytes)
 }

@@ -25,10 +25,10 @@ pub struct Standing {
     // g(L), taken away for each engine; 0 in plan 3, which takes no logarithm.
     pub level: u32,
     pub deviation: u32,
+    pub decision: Decision,
     // Of the logarithms; in plan 3, the engines over the limit. The squares are those of what was added to the sum.
     pub sum: u64,
     pub squares: u64,
-    pub decision: Decision,
 }
 
 fn is_undecided(d: Decision) -> bool

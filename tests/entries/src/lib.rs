@@ -16,7 +16,7 @@ extern "C" {
         output_length: usize,
     ) -> u32;
     pub fn probe_logarithm(m: u32) -> u32;
-    pub fn probe_evidence(sheet: *const u8, sheet_length: usize) -> usize;
+    pub fn probe_evidence(sheet: *const u8, sheet_length: usize, code: *mut u32) -> usize;
     pub fn probe_lines(
         sheet: *const u8,
         sheet_length: usize,

@@ -11,7 +11,10 @@ pub const REPORT: usize = 20;
 /// "The part of the sheet from its start through the deciding engine's record; the whole sheet
 /// where undecided, stopped or referred."
 pub fn evidence<const VARIANT: u8>(sheet: &[u8]) -> Result<&[u8], Refusal> {
-    let series = check::<VARIANT>(sheet)?;
+    let series = check::<VARIANT>(sheet).map_err(|refusal| match VARIANT {
+        variants::EVIDENCE_OF_NO_RECORD => Refusal::of_no_record(refusal.number),
+        _ => refusal,
+    })?;
     let judgement = walk::<VARIANT>(&series);
     let through_engine = (series.declared() + usize::from(judgement.engine)) * RECORD;
     Ok(match (judgement.ground, VARIANT) {

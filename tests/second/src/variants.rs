@@ -85,6 +85,7 @@ variants! { PROBE_VARIANTS from 60:
     EVIDENCE_WHOLE "evidence: always the whole sheet"
     EVIDENCE_WITHOUT_STOP "evidence: a stopped sheet without its stop"
     EVIDENCE_SHORT "evidence: without the deciding engine's record"
+    EVIDENCE_OF_NO_RECORD "evidence: a refusal with record 0, whichever it is"
     UNDECLARED_PRINTED "lines: a line for each undeclared pollutant too"
     GROUND_BEFORE_ENGINE "lines: ground before engine"
     REFUSED_RECORD_FIRST "lines: record before number"

@@ -1,4 +1,4 @@
--- The length of the part that evidence hands back.
+-- The length of the part that evidence hands back, and its code.
 use mathlib.Core.Path.{ap}
 use lib.ListN.{length}
 use borrow.Author.Needs.{needs}
@@ -6,4 +6,4 @@ use Rattle.probe.proofs.probe_evidence.Statement.{statement}
 use Rattle.probe.proofs.probe_evidence.Tie as tie
 
 pub probe-evidence-spec : {M : Type 1} → statement M
-probe-evidence-spec = tie.close (tie.spec (λ c κs. search needs) (λ c. ap length (c .evidence .ensures)))
+probe-evidence-spec = tie.close (tie.spec (λ c κs. search needs) (λ c. (ap length (c .evidence .ensures .0), c .evidence .ensures .1)))

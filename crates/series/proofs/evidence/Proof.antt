@@ -1,9 +1,9 @@
--- `evidence` meets its contract: the part lies in the sheet, and is the definition's.
-use mathlib.Core.Path.{sym}
+-- `evidence` meets its contract: the part lies in the sheet, and part and code are the definitions'.
+use mathlib.Core.Path.{refl, sym}
 use native.Mathlib.Omega.{arith}
 use lib.Seq.{length-take-le}
 use Rattle.series.proofs.Sheets.{few}
-use Rattle.series.proofs.Judging.{valid, evidence-refused, evidence-fits, evidence-accepted}
+use Rattle.series.proofs.Judging.{valid, evidence-refused, code-refused, evidence-fits, evidence-accepted}
 use borrow.Author.Needs.{needs}
 use Rattle.series.proofs.evidence.Statement.{statement}
 use Rattle.series.proofs.evidence.Tie as tie
@@ -15,11 +15,18 @@ evidence-spec =
     (λ c κs. search needs)
     (λ c. search needs)
     (λ c. search needs)
-    (λ c. search needs)
-    (λ c. evidence-refused _ (c .before .before .before .check .ensures) (c .before .enum-told .given .1))
+    (λ c κs. search needs)
+    (λ c κs. search needs)
+    (λ c. sym (length-take-le _ (c .before .before .before .before .before .before .before .args .bytes .now) (omega arith)))
+    (λ c.
+    let k = c .before .before .before in
+    let e = k .before .before .check .ensures in
+    let t = k .enum-told .given .1 in
+    (evidence-refused _ e t, rw (c .before .code .ensures, c .before .before .refusal .ensures, t) (code-refused _ e t)))
     (λ c κs. valid _ (c .before .before .before .check .ensures) (c .before .checked .given .1))
     (λ c κs. omega (arith, few (valid _ (c .before .before .before .before .check .ensures) (c .before .before .checked .given .1))))
     (λ c. let w = c .before .before in
     sym (length-take-le _ _ (rw (c .before .evidence-length .ensures) (evidence-fits (valid _ (w .before .before .before .before .check .ensures) (w .before .before .checked .given .1)) (w .walk .result) (w .walk .ensures)))))
     (λ c. let w = c .before .before in
-    rw (c .before .evidence-length .ensures) (evidence-accepted (valid _ (w .before .before .before .before .check .ensures) (w .before .before .checked .given .1)) (w .walk .result) (w .walk .ensures))))
+    let v = valid _ (w .before .before .before .before .check .ensures) (w .before .before .checked .given .1) in
+    (rw (c .before .evidence-length .ensures) (evidence-accepted v (w .walk .result) (w .walk .ensures)), rw (v .accepts) refl)))

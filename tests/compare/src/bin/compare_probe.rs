@@ -18,17 +18,25 @@ use std::process::ExitCode;
 /// The room that the longest lines fit into.
 const LINES: usize = 64;
 
-/// Evidence, as the length of the handed-back part (0 for a refusal), and the printed lines.
+/// What evidence answers: the length of the part, 0 for a refusal, and the refusal's code, 0 for
+/// none.
+type Evidence = (usize, u32);
+
 struct Operations {
     logarithm: fn(u32) -> u32,
-    evidence: fn(&[u8]) -> usize,
+    evidence: fn(&[u8]) -> Evidence,
     lines: fn(&[u8], &mut [u8]) -> usize,
 }
 
-// SAFETY of both calls: every pointer is that of a slice, and its length goes with it.
+// SAFETY of the calls: every pointer is that of a slice, and its length goes with it, or that of a
+// number.
 const LIBRARY: Operations = Operations {
     logarithm: |m| unsafe { probe_logarithm(m) },
-    evidence: |sheet| unsafe { probe_evidence(sheet.as_ptr(), sheet.len()) },
+    evidence: |sheet| {
+        let mut code = u32::MAX;
+        let length = unsafe { probe_evidence(sheet.as_ptr(), sheet.len(), &mut code) };
+        (length, code)
+    },
     lines: |sheet, output| unsafe {
         probe_lines(
             sheet.as_ptr(),
@@ -43,7 +51,10 @@ impl Operations {
     const fn second<const VARIANT: u8>() -> Self {
         Operations {
             logarithm: logarithm::<VARIANT>,
-            evidence: |sheet| evidence::<VARIANT>(sheet).map_or(0, <[u8]>::len),
+            evidence: |sheet| match evidence::<VARIANT>(sheet) {
+                Ok(part) => (part.len(), 0),
+                Err(refusal) => (0, refusal.code()),
+            },
             lines: |sheet, output| {
                 let text = lines::<VARIANT>(sheet);
                 output[..text.len()].copy_from_slice(text.as_bytes());
@@ -125,8 +136,8 @@ fn compare_corpus(corpus: &Corpus, tally: &mut Tally) {
     println!("{sheets} sheets, each with its evidence and its printed lines");
 }
 
-/// The length of the evidence, and the printed lines.
-fn answers(operations: &Operations, sheet: &[u8], lender: &mut impl Lender) -> (usize, String) {
+/// The evidence and the printed lines.
+fn answers(operations: &Operations, sheet: &[u8], lender: &mut impl Lender) -> (Evidence, String) {
     let (evidence, _) = lender.lend(sheet, &[], Edge::End, |sheet, _| {
         (operations.evidence)(sheet)
     });
@@ -145,6 +156,7 @@ fn catch_mutants() -> ExitCode {
         Operations::second::<{ variants::EVIDENCE_WHOLE }>(),
         Operations::second::<{ variants::EVIDENCE_WITHOUT_STOP }>(),
         Operations::second::<{ variants::EVIDENCE_SHORT }>(),
+        Operations::second::<{ variants::EVIDENCE_OF_NO_RECORD }>(),
         Operations::second::<{ variants::UNDECLARED_PRINTED }>(),
         Operations::second::<{ variants::GROUND_BEFORE_ENGINE }>(),
         Operations::second::<{ variants::REFUSED_RECORD_FIRST }>(),
