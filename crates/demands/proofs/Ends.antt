@@ -1,5 +1,5 @@
 -- Every accepted sheet with as many engines as its plan's last row is decided.
-use Prim.Native.Nat.{ℕ}
+use Prim.Native.Nat.{ℕ, _-_}
 use mathlib.Core.Path.{_≡_, refl}
 use mathlib.Core.Bool.{Bool, true, false, cond}
 use mathlib.Core.List.{List, [], _∷_, map}
@@ -113,10 +113,10 @@ module _ (plan : Plan) (q : ℕ) where
 
 after-last : (plan : Plan) (ps : List Pollutant) (q : ℕ) (es : List Record) → Ended (after plan ps q es (lastRow plan))
 unfolding after
-after-last knownDeviation ps q es = walk-last knownDeviation q ps (take 32 es) (after knownDeviation ps q es 31)
-after-last unknownDeviation ps q es = walk-last unknownDeviation q ps (take 32 es) (after unknownDeviation ps q es 31)
-after-last attributes ps q es = walk-last attributes q ps (take 19 es) (after attributes ps q es 18)
-after-last inService ps q es = walk-last inService q ps (take 15 es) (after inService ps q es 14)
+after-last knownDeviation ps q es = walk-last knownDeviation q ps (take (lastRow knownDeviation) es) (after knownDeviation ps q es (lastRow knownDeviation - 1))
+after-last unknownDeviation ps q es = walk-last unknownDeviation q ps (take (lastRow unknownDeviation) es) (after unknownDeviation ps q es (lastRow unknownDeviation - 1))
+after-last attributes ps q es = walk-last attributes q ps (take (lastRow attributes) es) (after attributes ps q es (lastRow attributes - 1))
+after-last inService ps q es = walk-last inService q ps (take (lastRow inService) es) (after inService ps q es (lastRow inService - 1))
 
 -- ---- bytes
 

@@ -3,13 +3,13 @@ ghost use mathlib.Core.Path.{_≡_};
 ghost use Prim.Native.Nat.{_+_, _*_, _^_, _≤_, _<_};
 ghost use lib.ListN.{length, take, drop};
 ghost use Rattle.rules.specs.Tools.{within, byte, two, four};
-ghost use Rattle.rules.specs.Sheet.{kind, number, plan, limit, deviation, cause, measurement};
+ghost use Rattle.rules.specs.Sheet.{kind, number, plan, limit, deviation, cause, measurement, recordSize};
 use crate::Sheet;
 
 // Record k of a sheet. For `sheet`, `series` and `reading`, which ask for records below the sheet's end: so it may require.
 pub fn record_at(sheet: &[u8], k: usize) -> &[u8]
-    requires { ⌜ 20 * k + 20 ≤ length (now sheet) ⌝ }
-    ensures { λ r. ⌜ now r ≡ take 20 (drop (20 * k) (now (sheet .entry))) ⌝ }
+    requires { ⌜ recordSize * k + recordSize ≤ length (now sheet) ⌝ }
+    ensures { λ r. ⌜ now r ≡ take recordSize (drop (recordSize * k) (now (sheet .entry))) ⌝ }
 {
     let start = Sheet::RECORD * k;
     &sheet[start..start + Sheet::RECORD]

@@ -57,7 +57,7 @@ impl Sheet {
     // "Records of 20 bytes, no header; at most 37."
     pub const RECORD: usize = 20;
 
-    pub const LONGEST: usize = 740;
+    pub const LONGEST: usize = 37 * Sheet::RECORD;
 
     // No record yet.
     pub fn nothing() -> Sheet

@@ -9,7 +9,7 @@ use lib.Dec.{ltb, eqb}
 use lib.ListN.{length, take, drop, length-drop, drop-of-length-le}
 use lib.Seq.{take-all, take-length, drop-drop}
 use borrow.Author.Tests.{lt-ltb, le-ltb, ltb-false, eqb-true, not-false}
-use Rattle.rules.specs.Sheet.{pollutants, records}
+use Rattle.rules.specs.Sheet.{pollutants, records, recordSize, longest, mostRecords}
 use Rattle.rules.specs.Refusals.{Check, accepted, refused, check}
 use Rattle.rules.specs.Operations.{noRoom, joined, append, appended}
 use Rattle.arithmetic.proofs.Booleans.{or-false}
@@ -57,38 +57,38 @@ module _ (s r : List ℕ) {c : Checked} (e : c ≡ soFar s) where
       let q : before s ≡ refused (f .number) (f .place) = sym (so-far-check s) ∙ ap checkIs (sym e ∙ p) in
       rw (p, q) refl
 
-  module _ {t : Sheet} (p : c ≡ checked.Sheet t) (l : length r ≡ 20) where
+  module _ {t : Sheet} (p : c ≡ checked.Sheet t) (l : length r ≡ recordSize) where
     accepts : before s ≡ accepted
     accepts = sym (so-far-check s) ∙ ap checkIs (sym e ∙ p)
 
-    after : checkIs (cond (ltb 720 (length s)) (checked.Refused (record { number = 1; place = 0 }))
-        (checkedFrom t (length s / 20) (records pollutants r)))
+    after : checkIs (cond (ltb (longest - recordSize) (length s)) (checked.Refused (record { number = 1; place = 0 }))
+        (checkedFrom t (length s / recordSize) (records pollutants r)))
         ≡ joined pollutants s r
     unfolding joined checkedOf
     after =
         rw (accepts, so-far-sheet s (sym e ∙ p), ← checked-after s accepts r l)
         (by-check (check pollutants (s ++ r)) (summary (records pollutants (s ++ r))))
 
-    pub joined-long : 720 < length s → refused 1 0 ≡ joined pollutants s r
-    joined-long h = rw (lt-ltb 720 (length s) h) at after
+    pub joined-long : longest - recordSize < length s → refused 1 0 ≡ joined pollutants s r
+    joined-long h = rw (lt-ltb (longest - recordSize) (length s) h) at after
 
-    module _ (h : length s ≤ 720) where
-      pub joined-ranges : {k : ℕ} → k ≤ 37 → AfterRanges t k (length r)
+    module _ (h : length s ≤ longest - recordSize) where
+      pub joined-ranges : {k : ℕ} → k ≤ mostRecords → AfterRanges t k (length r)
       joined-ranges f = rw (so-far-sheet s (sym e ∙ p)) (after-ranges s accepts h f (omega arith))
 
-      pub joined-after : {d : Checked} → d ≡ checkedFrom t (length s / 20) (records pollutants r) → checkIs d ≡ joined pollutants s r
-      joined-after f = ap checkIs f ∙ (rw (le-ltb 720 (length s) h) at after)
+      pub joined-after : {d : Checked} → d ≡ checkedFrom t (length s / recordSize) (records pollutants r) → checkIs d ≡ joined pollutants s r
+      joined-after f = ap checkIs f ∙ (rw (le-ltb (longest - recordSize) (length s) h) at after)
 
 -- ---- the buffer
 
-pub record-good : (r : List ℕ) {x : Bool} → x ≡ not (eqb (length r) 20) → x ≡ false → length r ≡ 20
-record-good r e f = eqb-true (length r) 20 (not-false (eqb (length r) 20) (sym e ∙ f))
+pub record-good : (r : List ℕ) {x : Bool} → x ≡ not (eqb (length r) recordSize) → x ≡ false → length r ≡ recordSize
+record-good r e f = eqb-true (length r) recordSize (not-false (eqb (length r) recordSize) (sym e ∙ f))
 
-pub room-good : (b : List ℕ) (u : ℕ) {x : Bool} → x ≡ noRoom pollutants b u → x ≡ false → u + 20 ≤ length b
+pub room-good : (b : List ℕ) (u : ℕ) {x : Bool} → x ≡ noRoom pollutants b u → x ≡ false → u + recordSize ≤ length b
 unfolding noRoom
 room-good b u e f =
-    let p = or-false (ltb (length (drop u b)) 20) (ltb (length b) u) (sym e ∙ f) in
-    let q = ltb-false (length (drop u b)) 20 (p .0) in
+    let p = or-false (ltb (length (drop u b)) recordSize) (ltb (length b) u) (sym e ∙ f) in
+    let q = ltb-false (length (drop u b)) recordSize (p .0) in
     let h = ltb-false (length b) u (p .1) in
     omega (arith, length-drop u b)
 
@@ -98,12 +98,12 @@ module _ (b : List ℕ) (u : ℕ) (r : List ℕ) {a : Check} (e : a ≡ append p
   kept n p q = (e, rw (sym e ∙ q) refl)
 
   -- the record is copied into the part from u on
-  pub wrote : a ≡ accepted → length r ≡ 20 → {y : List ℕ}
+  pub wrote : a ≡ accepted → length r ≡ recordSize → {y : List ℕ}
       → y ≡ take (length r) r ++ drop (length r) (take (length b - u) (drop u b))
       → (accepted ≡ append pollutants b u r) × (take u b ++ (y ++ drop (length b - u) (drop u b)) ≡ appended pollutants b u r)
   unfolding appended
   wrote q l p =
       let d : length (drop u b) ≤ length b - u = le-of-eq (length-drop u b) in (
         sym q ∙ e,
-        rw (sym e ∙ q, p, take-all (length b - u) (drop u b) d, drop-of-length-le (drop u b) d, append-nil, take-length r, l, drop-drop 20 u b) refl,
+        rw (sym e ∙ q, p, take-all (length b - u) (drop u b) d, drop-of-length-le (drop u b) d, append-nil, take-length r, l, drop-drop recordSize u b) refl,
       )

@@ -7,7 +7,7 @@ use lib.ListN.{length, take, drop, replicate}
 use lib.Seq.{take-length}
 use borrow.Author.Tests.{lt-ltb, le-ltb}
 use Rattle.rules.specs.Logarithm.{squarings}
-use Rattle.rules.specs.Sheet.{Record, pollutants, records, engines, stopped, planNumber, declared}
+use Rattle.rules.specs.Sheet.{Record, pollutants, records, engines, stopped, planNumber, declared, recordSize}
 use Rattle.rules.specs.Plans.{planOf}
 use Rattle.rules.specs.Series.{Pair, pair, pairOf, Series, ongoing, passed, failed, referred, after, Answer, refusal, judgement, answer, judgeRecords}
 use Rattle.rules.specs.Refusals.{Check, accepted, refused, check}
@@ -94,15 +94,15 @@ report-values j =
 -- ---- the output
 
 module _ (b o : List ℕ) where
-  pub too-short : length o < 20 → {a : Check} → a ≡ refused 15 0
+  pub too-short : length o < recordSize → {a : Check} → a ≡ refused 15 0
       → (a ≡ report pollutants b o) × (o ≡ reported pollutants squarings b o)
   unfolding report reported
-  too-short h q = (rw (q, lt-ltb (length o) 20 h) refl, rw (lt-ltb (length o) 20 h) refl)
+  too-short h q = (rw (q, lt-ltb (length o) recordSize h) refl, rw (lt-ltb (length o) recordSize h) refl)
 
-  module _ (h : 20 ≤ length o) (j : Judged) (e : judgedIs j ≡ judge pollutants squarings b) where
+  module _ (h : recordSize ≤ length o) (j : Judged) (e : judgedIs j ≡ judge pollutants squarings b) where
     answer-is : judgedCheck j ≡ report pollutants b o
     unfolding report
-    answer-is = rw (le-ltb (length o) 20 h) (judged-check j ∙ ap checkIn e ∙ judge-check pollutants squarings b)
+    answer-is = rw (le-ltb (length o) recordSize h) (judged-check j ∙ ap checkIn e ∙ judge-check pollutants squarings b)
 
     pub unreported : {f : Refusal} → j ≡ judged.Refused f → {a : Check} → a ≡ judgedCheck j
         → (a ≡ report pollutants b o) × (o ≡ reported pollutants squarings b o)
@@ -114,5 +114,5 @@ module _ (b o : List ℕ) where
     unfolding reported
     wrote {g} p {v} q r =
         let s : accepted ≡ report pollutants b o = sym (ap judgedCheck p) ∙ answer-is in
-        let n : length v ≡ 20 = ap length (q ∙ sym (report-values g)) in
+        let n : length v ≡ recordSize = ap length (q ∙ sym (report-values g)) in
         (s, rw (r, take-length v, n, q, ← s, ← e, p) refl)

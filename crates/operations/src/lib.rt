@@ -4,7 +4,7 @@ ghost use mathlib.Core.Bool.{not};
 ghost use lib.Dec.{eqb};
 ghost use lib.ListN.{length};
 ghost use Rattle.rules.specs.Logarithm.{squarings};
-ghost use Rattle.rules.specs.Sheet.{pollutants, size};
+ghost use Rattle.rules.specs.Sheet.{pollutants, size, recordSize};
 ghost use Rattle.rules.specs.Series.{pairOf};
 ghost use Rattle.rules.specs.Operations as rules;
 ghost use Rattle.standings.specs.Standing.{decisionIs};
@@ -73,7 +73,7 @@ fn checked_outcome(checked: Checked) -> Outcome
 
 // "1 to 12 for the sheet there .. 1 to 12 for the joined sheet": the record is judged by what the sheet says, with no copy of the two.
 fn joined(sheet: &[u8], r: &[u8]) -> Outcome
-    requires { ⌜ length (now r) ≡ 20 ⌝ }
+    requires { ⌜ length (now r) ≡ recordSize ⌝ }
     ensures { λ o. ⌜ outcomeIs o ≡ rules.joined pollutants (now (sheet .entry)) (now (r .entry)) ⌝ }
 {
     let checked = so_far(sheet);

@@ -41,7 +41,7 @@ fn decide(passes: bool, last: bool, fails: bool) -> Row
 // Plan 1, known deviation. For `standings` alone, which has bounded the sums and the deviation: so it may require.
 pub fn known_row(n: u64, added: u64, taken: u64, deviation: u64) -> Row
     requires { ⌜ Ranges n added taken ⌝ ∗ ⌜ deviation ≤ 4000000 ⌝ }
-    ensures { λ r. ⌜ rowIs r ≡ rules.decide (rules.knownPasses squarings n (pos added -ℤ pos taken) deviation) (eqb n 32)
+    ensures { λ r. ⌜ rowIs r ≡ rules.decide (rules.knownPasses squarings n (pos added -ℤ pos taken) deviation) (eqb n (rules.lastRow rules.knownDeviation))
         (rules.knownFails squarings n (pos added -ℤ pos taken) deviation) ⌝ }
 {
     decide(
@@ -54,7 +54,7 @@ pub fn known_row(n: u64, added: u64, taken: u64, deviation: u64) -> Row
 // Plan 2, unknown deviation. For `standings` alone, which has bounded the sums: so it may require.
 pub fn unknown_row(n: u64, added: u64, taken: u64, spread: u64) -> Row
     requires { ⌜ Ranges n added taken ⌝ }
-    ensures { λ r. ⌜ rowIs r ≡ rules.decide (rules.rootPasses (rules.unknownNumbers n .A) (pos added -ℤ pos taken) (pos spread)) (eqb n 32)
+    ensures { λ r. ⌜ rowIs r ≡ rules.decide (rules.rootPasses (rules.unknownNumbers n .A) (pos added -ℤ pos taken) (pos spread)) (eqb n (rules.lastRow rules.unknownDeviation))
         (rules.rootFails (rules.unknownNumbers n .B) (pos added -ℤ pos taken) (pos spread)) ⌝ }
 {
     decide(
@@ -67,7 +67,7 @@ pub fn unknown_row(n: u64, added: u64, taken: u64, spread: u64) -> Row
 // Plan 3, attributes: `over` is the number of engines over the limit. For `standings` alone, which walks rows 3 to the last: so it may require.
 pub fn attributes_row(n: u64, over: u64) -> Row
     requires { ⌜ RowRange n ⌝ }
-    ensures { λ r. ⌜ rowIs r ≡ rules.decide (rules.attributesPasses n over) (eqb n 19) (rules.attributesFails n over) ⌝ }
+    ensures { λ r. ⌜ rowIs r ≡ rules.decide (rules.attributesPasses n over) (eqb n (rules.lastRow rules.attributes)) (rules.attributesFails n over) ⌝ }
 {
     decide(
         attributes::passes(n, over),
@@ -79,7 +79,7 @@ pub fn attributes_row(n: u64, over: u64) -> Row
 // Plan 4, in service. For `standings` alone, which has bounded the sums: so it may require.
 pub fn in_service_row(n: u64, added: u64, taken: u64, spread: u64) -> Row
     requires { ⌜ Ranges n added taken ⌝ }
-    ensures { λ r. ⌜ rowIs r ≡ rules.decide (rules.rootPasses (rules.inServiceNumbers n .A) (pos added -ℤ pos taken) (pos spread)) (eqb n 15)
+    ensures { λ r. ⌜ rowIs r ≡ rules.decide (rules.rootPasses (rules.inServiceNumbers n .A) (pos added -ℤ pos taken) (pos spread)) (eqb n (rules.lastRow rules.inService))
         (rules.rootFails (rules.inServiceNumbers n .B) (pos added -ℤ pos taken) (pos spread)) ⌝ }
 {
     decide(

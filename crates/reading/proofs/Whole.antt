@@ -6,12 +6,12 @@ use mathlib.Core.List.{List}
 use lib.Dec.{ltb}
 use lib.ListN.{length}
 use borrow.Author.Tests.{lt-ltb, le-ltb}
-use Rattle.rules.specs.Sheet.{pollutants, records}
+use Rattle.rules.specs.Sheet.{pollutants, records, recordSize}
 use Rattle.accepted.proofs.Records.{length-records}
 
 module _ (b : List ℕ) (k : ℕ) where
-  pub has-record : k < length b / 20 → ltb k (length (records pollutants b)) ≡ true
-  has-record h = rw (length-records pollutants b) (lt-ltb k (length b / 20) h)
+  pub has-record : k < length b / recordSize → ltb k (length (records pollutants b)) ≡ true
+  has-record h = rw (length-records pollutants b) (lt-ltb k (length b / recordSize) h)
 
-  pub past-the-end : length b / 20 ≤ k → ltb k (length (records pollutants b)) ≡ false
-  past-the-end h = rw (length-records pollutants b) (le-ltb k (length b / 20) h)
+  pub past-the-end : length b / recordSize ≤ k → ltb k (length (records pollutants b)) ≡ false
+  past-the-end h = rw (length-records pollutants b) (le-ltb k (length b / recordSize) h)

@@ -22,6 +22,16 @@ size w = 4 + 4 * w
 abbrev pub most : (w : ℕ) → ℕ
 most w = w + 33
 
+-- the same for document 01's four pollutants: 20 bytes, 37 records, 740 bytes
+abbrev pub recordSize : ℕ
+recordSize = size pollutants
+
+abbrev pub mostRecords : ℕ
+mostRecords = most pollutants
+
+abbrev pub longest : ℕ
+longest = mostRecords * recordSize
+
 -- the first n records of the bytes b, each of s bytes
 unfoldable pub cut : (s n : ℕ) → List ℕ → List Record
 cut s zero b = []

@@ -8,7 +8,7 @@ use lib.ListN.{length, take}
 use lib.Seq.{take-length}
 use Rattle.rules.specs.Logarithm.{squarings}
 use Rattle.rules.specs.Tools.{any, all}
-use Rattle.rules.specs.Sheet.{Record, Pollutant, pollutants, records, ofKind, engines, stopped, planNumber, declared}
+use Rattle.rules.specs.Sheet.{Record, Pollutant, pollutants, records, ofKind, engines, stopped, planNumber, declared, recordSize}
 use Rattle.rules.specs.Plans as plans
 use Rattle.rules.specs.Series as rules
 use Rattle.rules.specs.Refusals.{check}
@@ -109,7 +109,7 @@ module _ {b : List ℕ} {s : Sheet} (v : Valid b s) (j : Judgement) (e : judgeme
   pub evidence-fits : evidenceLength (j .verdict) (length b) (s .pollutants) ≤ length b
   evidence-fits = cases (j .verdict) engine-within
     where
-      fits : (n : ℕ) → n ≤ length (engines (records pollutants b)) → 20 * (s .pollutants + n) ≤ length b
+      fits : (n : ℕ) → n ≤ length (engines (records pollutants b)) → recordSize * (s .pollutants + n) ≤ length b
       fits n h = omega (arith, counts-fit v, engines-are v)
 
       cases : (u : Verdict) → engineOf (verdictIs u pairs) ≤ length (engines (records pollutants b)) → evidenceLength u (length b) (s .pollutants) ≤ length b

@@ -9,7 +9,7 @@ use lib.Dec.{eqb}
 use lib.ListN.{length, getD, take}
 use lib.Seq.{length-take-le}
 use Rattle.rules.specs.Logarithm.{squarings}
-use Rattle.rules.specs.Sheet.{Record, Pollutant, pollutants, records, ofKind, engines, stopped, declared}
+use Rattle.rules.specs.Sheet.{Record, Pollutant, pollutants, records, ofKind, engines, stopped, declared, recordSize, mostRecords}
 use Rattle.rules.specs.Plans as rules
 use Rattle.rules.specs.Series as series
 use Rattle.rules.specs.Refusals.{newest}
@@ -85,11 +85,11 @@ module _ {b : List ℕ} {s : Sheet} (v : Valid b s) where
   at : (j : ℕ) → j < length es → getD es j [] ≡ recordAt b (s .pollutants + j)
   at j h = rw pollutants-are (engine-bytes pollutants b (laws.clean b (v .accepts)) j h)
 
-  pub counts-fit : 20 * (s .pollutants + s .engines) ≤ length b
+  pub counts-fit : recordSize * (s .pollutants + s .engines) ≤ length b
   counts-fit = rw (v .says) (omega (arith, laws.counts-fit b (v .accepts)))
 
-  pub few : s .pollutants + s .engines ≤ 37
-  few = omega (arith, counts-fit, laws.longest b (v .accepts))
+  pub few : s .pollutants + s .engines ≤ mostRecords
+  few = omega (arith, counts-fit, laws.not-longer b (v .accepts))
 
   module _ (plan : Plan) (is : planIs plan ≡ rules.planOf (s .plan)) where
     caused : Caused (isInService plan) ps es

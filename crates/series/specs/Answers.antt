@@ -1,6 +1,7 @@
 -- What judging answers, as document 01's numbers.
 use Prim.Native.Nat.{ℕ, _+_, _*_}
 use mathlib.Core.List.{List, [], _∷_}
+use Rattle.rules.specs.Sheet.{recordSize}
 use Rattle.rules.specs.Series as rules
 use Rattle.standings.specs.declared.Decision.{Decision}
 use Rattle.standings.specs.Standing.{decisionIs}
@@ -61,8 +62,8 @@ limitsIn (checked.Refused r) = noLimits
 -- how many bytes are evidence for a verdict, of a sheet of so many bytes and pollutants
 abbrev pub evidenceLength : Verdict → (bytes pollutants : ℕ) → ℕ
 evidenceLength (Another n) bytes pollutants = bytes
-evidenceLength (Pass n) bytes pollutants = 20 * (pollutants + n)
-evidenceLength (FailByRow n) bytes pollutants = 20 * (pollutants + n)
-evidenceLength (FailByCause n) bytes pollutants = 20 * (pollutants + n)
+evidenceLength (Pass n) bytes pollutants = recordSize * (pollutants + n)
+evidenceLength (FailByRow n) bytes pollutants = recordSize * (pollutants + n)
+evidenceLength (FailByCause n) bytes pollutants = recordSize * (pollutants + n)
 evidenceLength (FailByStop n) bytes pollutants = bytes
 evidenceLength (Referred n) bytes pollutants = bytes

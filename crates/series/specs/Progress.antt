@@ -6,7 +6,7 @@ use mathlib.Core.Bool.{Bool, true, false, _&&_, _||_, cond}
 use mathlib.Core.List.{List}
 use lib.Dec.{leb, ltb, eqb}
 use lib.ListN.{take, drop}
-use Rattle.rules.specs.Sheet.{Record, pollutants, records, cause, measurement}
+use Rattle.rules.specs.Sheet.{Record, pollutants, records, cause, measurement, recordSize}
 use Rattle.rules.specs.Plans.{lastRow}
 use Rattle.rules.specs.Series as rules
 use Rattle.rules.specs.Refusals.{accepted, check}
@@ -67,7 +67,7 @@ anyWaits s = waitsFor (s .co) || waitsFor (s .hc) || waitsFor (s .nox) || waitsF
 
 -- record k of the bytes
 abbrev pub recordAt : List ℕ → (k : ℕ) → Record
-recordAt b k = take 20 (drop (20 * k) b)
+recordAt b k = take recordSize (drop (recordSize * k) b)
 
 -- whether one of the n engines from the record `from` on has the cause c
 unfoldable pub causedBefore : List ℕ → (start n c : ℕ) → Bool
@@ -151,7 +151,7 @@ pub record InRowAll (plan : Plan) (n : ℕ) (s : Standings) : Type 0 where
 
 -- what the row of the engine behind n engines keeps to, on a sheet of so many bytes
 pub record NextRanges (bytes start n : ℕ) (plan : Plan) (p : Progress) : Type 0 where
-  pub inside : 20 * (start + n + 1) ≤ bytes
+  pub inside : recordSize * (start + n + 1) ≤ bytes
   pub few : start + n < 1000
   pub row : n + 1 ≤ lastRow (planIs plan)
   pub keeps : KeepsAll n (p .standings)

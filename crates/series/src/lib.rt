@@ -3,7 +3,7 @@ ghost use mathlib.Core.Path.{_≡_};
 ghost use Prim.Native.Nat.{_+_, _*_, _≤_, _<_};
 ghost use lib.ListN.{length};
 ghost use Rattle.rules.specs.Logarithm.{squarings};
-ghost use Rattle.rules.specs.Sheet.{pollutants, records};
+ghost use Rattle.rules.specs.Sheet.{pollutants, records, recordSize};
 ghost use Rattle.rules.specs.Plans.{lastRow};
 ghost use Rattle.rules.specs.Series.{judgeRecords};
 ghost use Rattle.rules.specs.Refusals as refusals;
@@ -216,7 +216,7 @@ impl Standings {
 
 // Whether one of the n engines from the record start on has the cause.
 fn caused_before(bytes: &[u8], start: usize, n: usize, cause: u32) -> bool
-    requires { ⌜ (20 * (start + n) ≤ length (now bytes)) × (start + n < 1000) ⌝ }
+    requires { ⌜ (recordSize * (start + n) ≤ length (now bytes)) × (start + n < 1000) ⌝ }
     ensures { λ b. ⌜ b ≡ causedBefore (now (bytes .entry)) start n cause ⌝ }
 {
     let mut found = false;
@@ -232,7 +232,7 @@ fn caused_before(bytes: &[u8], start: usize, n: usize, cause: u32) -> bool
 impl Emitters {
     // With one vehicle more, behind the n engines from the record start on.
     fn with(self, bytes: &[u8], start: usize, n: usize, cause: u32) -> Emitters
-        requires { ⌜ (20 * (start + n) ≤ length (now bytes)) × (start + n < 1000) × (self .count < 1000) ⌝ }
+        requires { ⌜ (recordSize * (start + n) ≤ length (now bytes)) × (start + n < 1000) × (self .count < 1000) ⌝ }
         ensures { λ e. ⌜ e ≡ emittersWith (now (bytes .entry)) start n cause self ⌝ }
     {
         if cause == 0 {
@@ -409,7 +409,7 @@ pub fn judge_with_limits(bytes: &[u8]) -> JudgedWithLimits
 // The bytes through the record of engine n, which stands behind the pollutants and n - 1 engines.
 fn through(pollutants: u32, n: u8) -> usize
     requires { ⌜ pollutants < 1000 ⌝ }
-    ensures { λ e. ⌜ e ≡ 20 * (pollutants + n) ⌝ }
+    ensures { λ e. ⌜ e ≡ recordSize * (pollutants + n) ⌝ }
 {
     Sheet::RECORD * (pollutants as usize + n as usize)
 }

@@ -1,5 +1,5 @@
 -- What an accepted sheet says, and the check of a sheet with a record after it.
-use Prim.Native.Nat.{ℕ, _+_, _/_, _%_, _≤_}
+use Prim.Native.Nat.{ℕ, _+_, _-_, _/_, _%_, _≤_}
 use native.Mathlib.Omega.{arith}
 use mathlib.Core.Path.{_≡_, refl, ap, _∙_}
 use mathlib.Core.Bool.{Bool, true, false, not, _||_, cond}
@@ -7,7 +7,7 @@ use mathlib.Core.List.{List, [], _∷_, _++_, append-nil, append-assoc}
 use lib.Dec.{ltb, eqb}
 use lib.ListN.{length, length-append}
 use borrow.Author.Tests.{eqb-true, eqb-false, ne-eqb, not-false, ltb-false}
-use Rattle.rules.specs.Sheet.{Record, pollutants, records, cut}
+use Rattle.rules.specs.Sheet.{Record, pollutants, records, cut, recordSize, longest, mostRecords}
 use Rattle.rules.specs.Plans.{planOf, lastRow}
 use Rattle.rules.specs.Refusals.{Check, accepted, refused, checkFrom, badLength, check}
 use Rattle.arithmetic.proofs.Booleans.{never, or-false}
@@ -43,13 +43,13 @@ refused-sheet b e = by-refusal (check pollutants b) (summary (records pollutants
 
 -- ---- the length
 
-pub length-fine : (n : ℕ) → badLength pollutants n ≡ false → (1 ≤ n) × ((n % 20 ≡ 0) × (n ≤ 740))
+pub length-fine : (n : ℕ) → badLength pollutants n ≡ false → (1 ≤ n) × ((n % recordSize ≡ 0) × (n ≤ longest))
 unfolding badLength
 length-fine n e =
-    let p = or-false (eqb n 0 || not (eqb (n % 20) 0)) (ltb 740 n) e in
-    let q = or-false (eqb n 0) (not (eqb (n % 20) 0)) (p .0) in
+    let p = or-false (eqb n 0 || not (eqb (n % recordSize) 0)) (ltb longest n) e in
+    let q = or-false (eqb n 0) (not (eqb (n % recordSize) 0)) (p .0) in
     let d = eqb-false n 0 (q .0) in
-    (omega arith, (eqb-true (n % 20) 0 (not-false (eqb (n % 20) 0) (q .1)), ltb-false 740 n (p .1)))
+    (omega arith, (eqb-true (n % recordSize) 0 (not-false (eqb (n % recordSize) 0) (q .1)), ltb-false longest n (p .1)))
 
 -- ---- a whole sheet stands after nothing
 
@@ -73,7 +73,7 @@ pub agrees-clean : (rs : List Record) → Clean pollutants [] rs → Agrees rs (
 agrees-clean rs c = agrees-from [] rs nothing start c
 
 counts-clean : (b : List ℕ) → Clean pollutants [] (records pollutants b)
-    → summary (records pollutants b) .pollutants + summary (records pollutants b) .engines ≤ length b / 20
+    → summary (records pollutants b) .pollutants + summary (records pollutants b) .engines ≤ length b / recordSize
 counts-clean b c =
     let a = agrees-clean (records pollutants b) c in
     let p = a .pollutantsIs in
@@ -88,22 +88,22 @@ module _ (b : List ℕ) (e : check pollutants b ≡ accepted) where
   pub clean : Clean pollutants [] (records pollutants b)
   clean = clean-of pollutants [] (records pollutants b) (parts .1)
 
-  pub whole : length b % 20 ≡ 0
+  pub whole : length b % recordSize ≡ 0
   whole = length-fine (length b) (parts .0) .1 .0
 
-  pub longest : length b ≤ 740
-  longest = length-fine (length b) (parts .0) .1 .1
+  pub not-longer : length b ≤ longest
+  not-longer = length-fine (length b) (parts .0) .1 .1
 
   pub agrees : Agrees (records pollutants b) (summary (records pollutants b))
   agrees = agrees-clean (records pollutants b) clean
 
-  pub counts-fit : summary (records pollutants b) .pollutants + summary (records pollutants b) .engines ≤ length b / 20
+  pub counts-fit : summary (records pollutants b) .pollutants + summary (records pollutants b) .engines ≤ length b / recordSize
   counts-fit = counts-clean b clean
 
   pub plan-range : (1 ≤ summary (records pollutants b) .plan) × (summary (records pollutants b) .plan ≤ 4)
   plan-range =
       let m : 1 ≤ length b = length-fine (length b) (parts .0) .0 in
-      let w : length b % 20 ≡ 0 = whole in
+      let w : length b % recordSize ≡ 0 = whole in
       agrees .planRange (agrees .emptyIs ∙ begun (records pollutants b) (omega (arith, length-records pollutants b)))
     where
       begun : (rs : List Record) → 1 ≤ length rs → isEmpty rs ≡ false
@@ -120,11 +120,11 @@ unfolding records cut
 no-records b z = rw z refl
 
 -- of whole records and one more, only too many are refused
-longer : (n : ℕ) → n % 20 ≡ 0 → badLength pollutants (n + 20) ≡ ltb 720 n
+longer : (n : ℕ) → n % recordSize ≡ 0 → badLength pollutants (n + recordSize) ≡ ltb (longest - recordSize) n
 unfolding badLength
 longer n w =
-    let m : (n + 20) % 20 ≡ 0 = omega arith in
-    rw (ne-eqb (n + 20) 0 (omega arith), m) (ltb-same 740 (n + 20) 720 n ((λ h. omega arith), (λ h. omega arith)))
+    let m : (n + recordSize) % recordSize ≡ 0 = omega arith in
+    rw (ne-eqb (n + recordSize) 0 (omega arith), m) (ltb-same longest (n + recordSize) (longest - recordSize) n ((λ h. omega arith), (λ h. omega arith)))
 
 refused-or : (t : Bool) (c : Check) (said : Sheet)
     → checkedBy (cond t (refused 1 0) c) said ≡ cond t (checked.Refused (record { number = 1; place = 0 })) (checkedBy c said)
@@ -132,30 +132,30 @@ refused-or true c said = refl
 refused-or false c said = refl
 
 module _ (b : List ℕ) (e : cond (eqb (length b) 0) accepted (check pollutants b) ≡ accepted) where
-  so-far : (length b % 20 ≡ 0) × Clean pollutants [] (records pollutants b)
+  so-far : (length b % recordSize ≡ 0) × Clean pollutants [] (records pollutants b)
   so-far = cases (eqb (length b) 0) refl e
     where
       cases : (t : Bool) → eqb (length b) 0 ≡ t → cond t accepted (check pollutants b) ≡ accepted
-          → (length b % 20 ≡ 0) × Clean pollutants [] (records pollutants b)
+          → (length b % recordSize ≡ 0) × Clean pollutants [] (records pollutants b)
       cases true q h =
           let z = eqb-true (length b) 0 q in
           (omega arith, rw (no-records b z) tt)
       cases false q h = (whole b h, clean b h)
 
-  pub after-ranges : length b ≤ 720 → {k n : ℕ} → k ≤ 37 → n ≤ 740 → AfterRanges (summary (records pollutants b)) k n
+  pub after-ranges : length b ≤ longest - recordSize → {k n : ℕ} → k ≤ mostRecords → n ≤ longest → AfterRanges (summary (records pollutants b)) k n
   after-ranges h p l =
       let c = counts-clean b (so-far .1) in
       record { pollutants = omega arith; engines = omega arith; place = p; length = l }
 
-  pub checked-after : (r : List ℕ) → length r ≡ 20
+  pub checked-after : (r : List ℕ) → length r ≡ recordSize
       → checkedOf (b ++ r)
-      ≡ cond (ltb 720 (length b)) (checked.Refused (record { number = 1; place = 0 }))
-      (checkedFrom (summary (records pollutants b)) (length b / 20) (records pollutants r))
+      ≡ cond (ltb (longest - recordSize) (length b)) (checked.Refused (record { number = 1; place = 0 }))
+      (checkedFrom (summary (records pollutants b)) (length b / recordSize) (records pollutants r))
   unfolding checkedOf check
   checked-after r l =
       let rs = records pollutants b in
-      let n : length (b ++ r) ≡ length b + 20 = length-append b r ∙ ap (λ (x : ℕ). length b + x) l in
-      let f : checkedFrom (summary rs) (length b / 20) (records pollutants r)
+      let n : length (b ++ r) ≡ length b + recordSize = length-append b r ∙ ap (λ (x : ℕ). length b + x) l in
+      let f : checkedFrom (summary rs) (length b / recordSize) (records pollutants r)
       ≡ checkedBy (checkFrom pollutants rs (records pollutants r)) (summaryFrom (summary rs) (records pollutants r)) =
       rw (length-records pollutants b) at (checked-from rs (records pollutants r) (summary rs) (agrees-clean rs (so-far .1))) in
       rw (
@@ -166,4 +166,4 @@ module _ (b : List ℕ) (e : cond (eqb (length b) 0) accepted (check pollutants 
         summary-append nothing rs (records pollutants r),
         f,
       )
-      (refused-or (ltb 720 (length b)) _ _)
+      (refused-or (ltb (longest - recordSize) (length b)) _ _)

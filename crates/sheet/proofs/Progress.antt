@@ -10,7 +10,7 @@ use lib.Dec.{eqb}
 use lib.ListN.{length, length-append, take, drop, drop-of-length-le}
 use lib.Seq.{drop-cons}
 use borrow.Author.Tests.{eqb-true, ne-eqb}
-use Rattle.rules.specs.Sheet.{Record, pollutants, records, kind}
+use Rattle.rules.specs.Sheet.{Record, pollutants, records, kind, recordSize}
 use Rattle.rules.specs.Refusals.{faultOf, refused, checkFrom}
 use Rattle.accepted.proofs.Records.{record-at, length-records}
 use Rattle.faults.specs.declared.Sheet.{Sheet}
@@ -72,20 +72,20 @@ module _ {s : Sheet} {first : ℕ} (b : List ℕ) (k : ℕ) {t : Sheet} (g : Pro
   abbrev rs : List Record
   rs = records pollutants b
 
-  pub done : length b / 20 ≤ k → checked.Sheet t ≡ checkedFrom s first rs
+  pub done : length b / recordSize ≤ k → checked.Sheet t ≡ checkedFrom s first rs
   unfolding checkedFrom
   done h =
       let m : length rs ≤ k = rw (length-records pollutants b) h in
       rw (drop-of-length-le rs m) at (g .left)
 
-  module _ (h : k < length b / 20) where
+  module _ (h : k < length b / recordSize) where
     pub room : AfterRanges s first (length b) → Room t
     room a =
         let p = g .pollutants in
         let e = g .engines in
         record { pollutants = omega (arith, a .pollutants, a .length); engines = omega (arith, a .engines, a .length) }
 
-    module _ {r : Record} {n : ℕ} (e : r ≡ take 20 (drop (20 * k) b)) (f : n ≡ faultBy t r) where
+    module _ {r : Record} {n : ℕ} (e : r ≡ take recordSize (drop (recordSize * k) b)) (f : n ≡ faultBy t r) where
       split : drop k rs ≡ r ∷ drop (suc k) rs
       split =
           let inside : k < length rs = rw (length-records pollutants b) h in

@@ -3,7 +3,7 @@ use Prim.Native.Nat.{ℕ, suc, _≤_}
 use mathlib.Core.Bool.{cond}
 use mathlib.Core.List.{List, [], _∷_}
 use lib.Dec.{eqb}
-use Rattle.rules.specs.Sheet.{Record, pollutants, records}
+use Rattle.rules.specs.Sheet.{Record, pollutants, records, longest, mostRecords}
 use Rattle.rules.specs.Refusals.{Check, accepted, refused, check}
 use Rattle.faults.specs.declared.Sheet.{Sheet}
 use Rattle.faults.specs.State.{nothing, sheetWith}
@@ -34,7 +34,7 @@ checkedFrom s k (r ∷ rs) =
 
 -- what n bytes of records must leave room for after those of which s tells: a sheet has at most 37 records
 pub record AfterRanges (s : Sheet) (k n : ℕ) : Type 0 where
-  pub pollutants : s .pollutants ≤ 37
-  pub engines : s .engines ≤ 37
-  pub place : k ≤ 37
-  pub length : n ≤ 740
+  pub pollutants : s .pollutants ≤ mostRecords
+  pub engines : s .engines ≤ mostRecords
+  pub place : k ≤ mostRecords
+  pub length : n ≤ longest

@@ -72,13 +72,13 @@ spreadW n sum squares = pos (n * squares - sum * sum)
 -- what row n of the plan says
 unfoldable pub rowFrom : Plan → (n sum squares level t : ℕ) → rules.Row
 rowFrom KnownDeviation n sum squares level t =
-    rules.decide (rules.knownPasses squarings n (sumD n sum level) t) (eqb n 32) (rules.knownFails squarings n (sumD n sum level) t)
+    rules.decide (rules.knownPasses squarings n (sumD n sum level) t) (eqb n (rules.lastRow rules.knownDeviation)) (rules.knownFails squarings n (sumD n sum level) t)
 rowFrom UnknownDeviation n sum squares level t =
-    rules.decide (rules.rootPasses (rules.unknownNumbers n .A) (sumD n sum level) (spreadW n sum squares)) (eqb n 32)
+    rules.decide (rules.rootPasses (rules.unknownNumbers n .A) (sumD n sum level) (spreadW n sum squares)) (eqb n (rules.lastRow rules.unknownDeviation))
     (rules.rootFails (rules.unknownNumbers n .B) (sumD n sum level) (spreadW n sum squares))
-rowFrom Attributes n sum squares level t = rules.decide (rules.attributesPasses n sum) (eqb n 19) (rules.attributesFails n sum)
+rowFrom Attributes n sum squares level t = rules.decide (rules.attributesPasses n sum) (eqb n (rules.lastRow rules.attributes)) (rules.attributesFails n sum)
 rowFrom InService n sum squares level t =
-    rules.decide (rules.rootPasses (rules.inServiceNumbers n .A) (sumD n sum level) (spreadW n sum squares)) (eqb n 15)
+    rules.decide (rules.rootPasses (rules.inServiceNumbers n .A) (sumD n sum level) (spreadW n sum squares)) (eqb n (rules.lastRow rules.inService))
     (rules.rootFails (rules.inServiceNumbers n .B) (sumD n sum level) (spreadW n sum squares))
 
 -- the program's decision of a row

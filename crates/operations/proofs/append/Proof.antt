@@ -4,7 +4,7 @@ use native.Mathlib.Omega.{arith}
 use mathlib.Core.Path.{_≡_, sym, ap}
 use lib.ListN.{length, length-take, length-drop}
 use lib.Seq.{length-take-le}
-use Rattle.rules.specs.Sheet.{pollutants}
+use Rattle.rules.specs.Sheet.{pollutants, recordSize}
 use Rattle.rules.specs.Operations.{append}
 use Rattle.arithmetic.proofs.Chain.{skip, stop}
 use Rattle.operations.specs.Outcomes.{outcomeIs}
@@ -18,10 +18,10 @@ module _ (c : tie.Else2) where
   abbrev start : tie.Start
   start = c .before .before .before .before .before .before .before
 
-  length-good : length (start .args .added .now) ≡ 20
+  length-good : length (start .args .added .now) ≡ recordSize
   length-good = record-good (start .args .added .now) (c .before .before .before .before .bad-record .ensures) (c .before .before .before .if1 .left)
 
-  fits : start .args .used + 20 ≤ length (start .args .buffer .now)
+  fits : start .args .used + recordSize ≤ length (start .args .buffer .now)
   fits = room-good (start .args .buffer .now) (start .args .used) (c .before .no-room .ensures) (c .if2 .left)
 
 -- the answer for the sheet is then the answer

@@ -4,6 +4,7 @@ use Prim.Native.Nat.{_-_}
 use lib.ListN.{length, drop, length-drop}
 use lib.Dec.{ltb}
 use borrow.Author.Tests.{lt-ltb, le-ltb}
+use Rattle.rules.specs.Sheet.{recordSize}
 use Rattle.rules.specs.Operations.{noRoom}
 use Rattle.arithmetic.proofs.Booleans.{or-true, or-same}
 use borrow.Author.Needs.{needs}
@@ -17,8 +18,8 @@ no-room-spec =
     (tie.spec
     (λ c.
     let a = c .before .args in
-    rw (lt-ltb (length (a .buffer .now)) (a .used) (c .if1 .taken)) (sym (or-true (ltb (length (drop (a .used) (a .buffer .now))) 20))))
+    rw (lt-ltb (length (a .buffer .now)) (a .used) (c .if1 .taken)) (sym (or-true (ltb (length (drop (a .used) (a .buffer .now))) recordSize))))
     (λ c. search needs)
     (λ c.
     let a = c .before .args in
-    rw (le-ltb (length (a .buffer .now)) (a .used) (c .if1 .left), length-drop) (sym (or-same (ltb (length (a .buffer .now) - a .used) 20)))))
+    rw (le-ltb (length (a .buffer .now)) (a .used) (c .if1 .left), length-drop) (sym (or-same (ltb (length (a .buffer .now) - a .used) recordSize)))))

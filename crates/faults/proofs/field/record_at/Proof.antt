@@ -1,4 +1,4 @@
--- The part is 20 bytes from 20 * k on.
+-- The part is a record's bytes, behind those of k records.
 use native.Mathlib.Nat.{add-sub-cancel-left}
 use borrow.Author.Needs.{needs}
 use Rattle.faults.proofs.field.record_at.Statement.{statement}
