@@ -4,12 +4,12 @@ ghost use mathlib.Core.Bool.{not};
 ghost use lib.Dec.{eqb};
 ghost use lib.ListN.{length};
 ghost use Rattle.rules.specs.Logarithm.{squarings};
-ghost use Rattle.rules.specs.Sheet.{pollutants, size, recordSize};
+ghost use Rattle.rules.specs.Sheet.{pollutants, size};
 ghost use Rattle.rules.specs.Series.{pairOf};
 ghost use Rattle.rules.specs.Operations as rules;
 ghost use Rattle.standings.specs.Standing.{decisionIs};
 ghost use Rattle.series.specs.Answers.{judgementIs};
-ghost use Rattle.operations.specs.Outcomes.{outcomeIs, checkIs, judgedCheck, soFar};
+ghost use Rattle.operations.specs.Outcomes.{outcomeIs, checkIs, judgedCheck};
 ghost use Rattle.operations.specs.Values.{verdictNumber, groundOf, engineOf, decisionIn, pairEngine};
 use faults::Sheet;
 use series::Judged;
@@ -18,8 +18,7 @@ use series::Verdict;
 use series::judge;
 use sheet::Checked;
 use sheet::Refusal;
-use sheet::check;
-use sheet::check_after;
+use sheet::check_joined;
 use standings::Decision;
 
 pub enum Outcome {
@@ -51,16 +50,6 @@ fn no_room(buffer: &[u8], used: usize) -> bool
     buffer.len() - used < Sheet::RECORD
 }
 
-// The sheet before the record: "1 to 12 for the sheet there, unless u = 0".
-fn so_far(sheet: &[u8]) -> Checked
-    ensures { λ c. ⌜ c ≡ soFar (now (sheet .entry)) ⌝ }
-{
-    if sheet.len() == 0 {
-        return Checked::Sheet(Sheet::nothing());
-    }
-    check(sheet)
-}
-
 // The check's answer without what an accepted sheet says.
 fn checked_outcome(checked: Checked) -> Outcome
     ensures { λ o. ⌜ outcomeIs o ≡ checkIs checked ⌝ }
@@ -71,19 +60,11 @@ fn checked_outcome(checked: Checked) -> Outcome
     }
 }
 
-// "1 to 12 for the sheet there .. 1 to 12 for the joined sheet": the record is judged by what the sheet says, with no copy of the two.
+// "1 to 12 for the sheet there, unless u = 0; 1 to 12 for the joined sheet"
 fn joined(sheet: &[u8], r: &[u8]) -> Outcome
-    requires { ⌜ length (now r) ≡ recordSize ⌝ }
     ensures { λ o. ⌜ outcomeIs o ≡ rules.joined pollutants (now (sheet .entry)) (now (r .entry)) ⌝ }
 {
-    let checked = so_far(sheet);
-    let Checked::Sheet(before) = checked else {
-        return checked_outcome(checked);
-    };
-    if Sheet::LONGEST - Sheet::RECORD < sheet.len() {
-        return refused(1);
-    }
-    checked_outcome(check_after(before, sheet.len() / Sheet::RECORD, r))
+    checked_outcome(check_joined(sheet, r))
 }
 
 // "Append adds a record to the sheet in the first u bytes of a lent buffer."

@@ -1,17 +1,16 @@
--- What an accepted sheet says, and the check of a sheet with a record after it.
-use Prim.Native.Nat.{ℕ, _+_, _-_, _/_, _%_, _≤_}
+-- What an accepted sheet says, and the check of a sheet with more bytes behind it.
+use Prim.Native.Nat.{ℕ, _+_, _/_, _%_, _≤_}
 use native.Mathlib.Omega.{arith}
-use mathlib.Core.Path.{_≡_, refl, ap, _∙_}
+use mathlib.Core.Path.{_≡_, refl, sym, _∙_}
 use mathlib.Core.Bool.{Bool, true, false, not, _||_, cond}
 use mathlib.Core.List.{List, [], _∷_, _++_, append-nil, append-assoc}
 use lib.Dec.{ltb, eqb}
 use lib.ListN.{length, length-append}
-use borrow.Author.Tests.{eqb-true, eqb-false, ne-eqb, not-false, ltb-false}
+use borrow.Author.Tests.{eqb-true, eqb-false, not-false, ltb-false}
 use Rattle.rules.specs.Sheet.{Record, pollutants, records, cut, recordSize, longest, mostRecords}
 use Rattle.rules.specs.Plans.{planOf, lastRow}
 use Rattle.rules.specs.Refusals.{Check, accepted, refused, checkFrom, badLength, check}
 use Rattle.arithmetic.proofs.Booleans.{never, or-false}
-use Rattle.arithmetic.proofs.Order.{ltb-same}
 use Rattle.accepted.proofs.Records.{records-append, length-records}
 use Rattle.accepted.proofs.Faultless.{Clean, clean-of, cond-accepted, check-clean}
 use Rattle.accepted.proofs.Engines.{counts}
@@ -19,8 +18,9 @@ use Rattle.faults.specs.declared.Sheet.{Sheet}
 use Rattle.faults.specs.State.{nothing, sheetWith}
 use Rattle.faults.proofs.Agreement.{isEmpty, Agrees, start, step}
 use Rattle.sheet.specs.declared.Refusal.{Refusal}
+use Rattle.sheet.specs.declared.Checked.{Checked}
 use Rattle.sheet.specs.declared.Checked.the-variants as checked
-use Rattle.sheet.specs.Check.{summaryFrom, summary, checkedBy, checkedOf, checkedFrom, AfterRanges}
+use Rattle.sheet.specs.Check.{summaryFrom, summary, checkedBy, checkedOf, soFar, joinedOf, checkedFrom, AfterRanges}
 use Rattle.sheet.proofs.Progress.{summary-append, checked-from}
 
 -- ---- the program's answer and document 01's
@@ -113,57 +113,76 @@ module _ (b : List ℕ) (e : check pollutants b ≡ accepted) where
   pub engines-fit : summary (records pollutants b) .engines ≤ lastRow (planOf (summary (records pollutants b) .plan))
   engines-fit = agrees .enginesFit
 
--- ---- a record after a sheet that is accepted or has no bytes
+-- ---- bytes behind a sheet that is accepted or has none
 
-pub no-records : (b : List ℕ) → length b ≡ 0 → records pollutants b ≡ []
+no-records : (b : List ℕ) → length b ≡ 0 → records pollutants b ≡ []
 unfolding records cut
 no-records b z = rw z refl
-
--- of whole records and one more, only too many are refused
-longer : (n : ℕ) → n % recordSize ≡ 0 → badLength pollutants (n + recordSize) ≡ ltb (longest - recordSize) n
-unfolding badLength
-longer n w =
-    let m : (n + recordSize) % recordSize ≡ 0 = omega arith in
-    rw (ne-eqb (n + recordSize) 0 (omega arith), m) (ltb-same longest (n + recordSize) (longest - recordSize) n ((λ h. omega arith), (λ h. omega arith)))
 
 refused-or : (t : Bool) (c : Check) (said : Sheet)
     → checkedBy (cond t (refused 1 0) c) said ≡ cond t (checked.Refused (record { number = 1; place = 0 })) (checkedBy c said)
 refused-or true c said = refl
 refused-or false c said = refl
 
-module _ (b : List ℕ) (e : cond (eqb (length b) 0) accepted (check pollutants b) ≡ accepted) where
-  so-far : (length b % recordSize ≡ 0) × Clean pollutants [] (records pollutants b)
+module _ (b : List ℕ) {s : Sheet} (e : soFar b ≡ checked.Sheet s) where
+  record SoFar : Type 0 where
+    whole : length b % recordSize ≡ 0
+    clean : Clean pollutants [] (records pollutants b)
+    says : s ≡ summary (records pollutants b)
+
+  so-far : SoFar
+  unfolding soFar summaryFrom
   so-far = cases (eqb (length b) 0) refl e
     where
-      cases : (t : Bool) → eqb (length b) 0 ≡ t → cond t accepted (check pollutants b) ≡ accepted
-          → (length b % recordSize ≡ 0) × Clean pollutants [] (records pollutants b)
+      cases : (t : Bool) → eqb (length b) 0 ≡ t → cond t (checked.Sheet nothing) (checkedOf b) ≡ checked.Sheet s → SoFar
       cases true q h =
           let z = eqb-true (length b) 0 q in
-          (omega arith, rw (no-records b z) tt)
-      cases false q h = (whole b h, clean b h)
+          record { whole = omega arith; clean = rw (no-records b z) tt; says = rw (no-records b z) (cc) }
+      cases false q h =
+          let a = accepted-sheet b h in
+          record { whole = whole b (a .0); clean = clean b (a .0); says = a .1 }
 
-  pub after-ranges : length b ≤ longest - recordSize → {k n : ℕ} → k ≤ mostRecords → n ≤ longest → AfterRanges (summary (records pollutants b)) k n
-  after-ranges h p l =
-      let c = counts-clean b (so-far .1) in
-      record { pollutants = omega arith; engines = omega arith; place = p; length = l }
+module _ (b more : List ℕ) {c : Checked} (e : c ≡ soFar b) where
+  pub joined-refused : {f : Refusal} → c ≡ checked.Refused f → c ≡ joinedOf b more
+  unfolding joinedOf
+  joined-refused p = rw (sym e ∙ p) p
 
-  pub checked-after : (r : List ℕ) → length r ≡ recordSize
-      → checkedOf (b ++ r)
-      ≡ cond (ltb (longest - recordSize) (length b)) (checked.Refused (record { number = 1; place = 0 }))
-      (checkedFrom (summary (records pollutants b)) (length b / recordSize) (records pollutants r))
-  unfolding checkedOf check
-  checked-after r l =
-      let rs = records pollutants b in
-      let n : length (b ++ r) ≡ length b + recordSize = length-append b r ∙ ap (λ (x : ℕ). length b + x) l in
-      let f : checkedFrom (summary rs) (length b / recordSize) (records pollutants r)
-      ≡ checkedBy (checkFrom pollutants rs (records pollutants r)) (summaryFrom (summary rs) (records pollutants r)) =
-      rw (length-records pollutants b) at (checked-from rs (records pollutants r) (summary rs) (agrees-clean rs (so-far .1))) in
-      rw (
-        n,
-        longer (length b) (so-far .0),
-        records-append pollutants b r (so-far .0),
-        check-clean pollutants [] rs (records pollutants r) (so-far .1),
-        summary-append nothing rs (records pollutants r),
-        f,
-      )
-      (refused-or (ltb (longest - recordSize) (length b)) _ _)
+  module _ {s : Sheet} (p : c ≡ checked.Sheet s) where
+    abbrev rs : List Record
+    rs = records pollutants b
+
+    said : SoFar b (sym e ∙ p)
+    said = so-far b (sym e ∙ p)
+
+    joined-is : joinedOf b more
+        ≡ cond (badLength pollutants (length b + length more)) (checked.Refused (record { number = 1; place = 0 }))
+        (checkedFrom s (length b / recordSize) (records pollutants more))
+    unfolding joinedOf checkedOf check
+    joined-is =
+        let f : checkedFrom (summary rs) (length b / recordSize) (records pollutants more)
+        ≡ checkedBy (checkFrom pollutants rs (records pollutants more)) (summaryFrom (summary rs) (records pollutants more)) =
+        rw (length-records pollutants b) at (checked-from rs (records pollutants more) (summary rs) (agrees-clean rs (said .clean))) in
+        rw (
+          sym e ∙ p,
+          said .says,
+          length-append b more,
+          records-append pollutants b more (said .whole),
+          check-clean pollutants [] rs (records pollutants more) (said .clean),
+          summary-append nothing rs (records pollutants more),
+          f,
+        )
+        (refused-or (badLength pollutants (length b + length more)) _ _)
+
+    pub joined-bad : badLength pollutants (length b + length more) ≡ true → {d : Checked}
+        → d ≡ checked.Refused (record { number = 1; place = 0 }) → d ≡ joinedOf b more
+    joined-bad h q = q ∙ sym (rw h at joined-is)
+
+    module _ (h : badLength pollutants (length b + length more) ≡ false) where
+      pub joined-ranges : {k : ℕ} → k ≤ mostRecords → AfterRanges s k (length more)
+      joined-ranges f =
+          let n = counts-clean b (said .clean) in
+          let l = length-fine (length b + length more) h .1 .1 in
+          rw (said .says) (record { pollutants = omega arith; engines = omega arith; place = f; length = omega arith })
+
+      pub joined-after : {d : Checked} → d ≡ checkedFrom s (length b / recordSize) (records pollutants more) → d ≡ joinedOf b more
+      joined-after q = q ∙ sym (rw h at joined-is)

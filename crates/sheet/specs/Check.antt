@@ -1,8 +1,9 @@
 -- The program's answer to the check: what an accepted sheet says, or its refusal as document 01 has it.
 use Prim.Native.Nat.{ℕ, suc, _≤_}
 use mathlib.Core.Bool.{cond}
-use mathlib.Core.List.{List, [], _∷_}
+use mathlib.Core.List.{List, [], _∷_, _++_}
 use lib.Dec.{eqb}
+use lib.ListN.{length}
 use Rattle.rules.specs.Sheet.{Record, pollutants, records, longest, mostRecords}
 use Rattle.rules.specs.Refusals.{Check, accepted, refused, check}
 use Rattle.faults.specs.declared.Sheet.{Sheet}
@@ -25,6 +26,18 @@ checkedBy (refused number place) s = checked.Refused (record { number = number; 
 
 unfoldable pub checkedOf : List ℕ → Checked
 checkedOf b = checkedBy (check pollutants b) (summary (records pollutants b))
+
+-- the check of a sheet that bytes are added to: one with no bytes says nothing
+unfoldable pub soFar : List ℕ → Checked
+soFar b = cond (eqb (length b) 0) (checked.Sheet nothing) (checkedOf b)
+
+-- the sheet's own refusal, or else the answer for the whole
+abbrev pub joinedBy : (sheet whole : Checked) → Checked
+joinedBy (checked.Sheet s) whole = whole
+joinedBy (checked.Refused r) whole = checked.Refused r
+
+unfoldable pub joinedOf : (b more : List ℕ) → Checked
+joinedOf b more = joinedBy (soFar b) (checkedOf (b ++ more))
 
 -- the answer for the records rs, the first of which is record k, after those of which s tells
 unfoldable pub checkedFrom : Sheet → (k : ℕ) → (rs : List Record) → Checked

@@ -4,7 +4,8 @@ ghost use Prim.Native.Nat.{_+_, _*_};
 ghost use lib.ListN.{length};
 ghost use Rattle.rules.specs.Sheet.{pollutants, records};
 ghost use Rattle.rules.specs.Refusals.{badLength};
-ghost use Rattle.sheet.specs.Check.{checkedFrom, checkedOf, AfterRanges};
+ghost use Rattle.sheet.specs.declared.Checked.the-variants as checked;
+ghost use Rattle.sheet.specs.Check.{checkedFrom, checkedOf, soFar, joinedOf, AfterRanges};
 use faults::Sheet;
 use faults::fault::fault_of;
 use faults::field::record_at;
@@ -36,10 +37,19 @@ fn bad_length(n: usize) -> bool
     (n == 0) | (n % Sheet::RECORD != 0) | (Sheet::LONGEST < n)
 }
 
+// "for 1, record 0"
+fn refused_length() -> Checked
+    ensures { λ c. ⌜ c ≡ checked.Refused (record { number = 1; place = 0 }) ⌝ }
+{
+    Checked::Refused(Refusal {
+        number: 1,
+        place: 0,
+    })
+}
+
 // "Then the first faulty record, and in it the lowest", of records that stand after those of which `before` tells; the first of them is record `first`.
-// A whole sheet stands after nothing. One loop for it and for the record that append adds: so the faults are looked for in one place, and the compiler puts them into the loop.
-// For this crate and `operations`, which hand over at most 37 records after at most 37: so it may require.
-pub fn check_after(before: Sheet, first: usize, bytes: &[u8]) -> Checked
+// A whole sheet stands after nothing. One loop for it and for bytes behind another: so the faults are looked for in one place, and the compiler puts them into the loop.
+fn check_after(before: Sheet, first: usize, bytes: &[u8]) -> Checked
     requires { ⌜ AfterRanges before first (length (now bytes)) ⌝ }
     ensures { λ c. ⌜ c ≡ checkedFrom before first (records pollutants (now (bytes .entry))) ⌝ }
 {
@@ -65,10 +75,31 @@ pub fn check(bytes: &[u8]) -> Checked
     ensures { λ c. ⌜ c ≡ checkedOf (now (bytes .entry)) ⌝ }
 {
     if bad_length(bytes.len()) {
-        return Checked::Refused(Refusal {
-            number: 1,
-            place: 0,
-        });
+        return refused_length();
     }
     check_after(Sheet::nothing(), 0, bytes)
+}
+
+// A sheet that bytes are added to: one with no bytes says nothing.
+fn so_far(sheet: &[u8]) -> Checked
+    ensures { λ c. ⌜ c ≡ soFar (now (sheet .entry)) ⌝ }
+{
+    if sheet.len() == 0 {
+        return Checked::Sheet(Sheet::nothing());
+    }
+    check(sheet)
+}
+
+// The check of a sheet by itself, unless it has no bytes, and then with more bytes behind it: what is added is judged by what the sheet says, with no copy of the two.
+pub fn check_joined(sheet: &[u8], more: &[u8]) -> Checked
+    ensures { λ c. ⌜ c ≡ joinedOf (now (sheet .entry)) (now (more .entry)) ⌝ }
+{
+    let checked = so_far(sheet);
+    let Checked::Sheet(before) = checked else {
+        return checked;
+    };
+    if bad_length(sheet.len() + more.len()) {
+        return refused_length();
+    }
+    check_after(before, sheet.len() / Sheet::RECORD, more)
 }

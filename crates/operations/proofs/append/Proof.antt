@@ -56,7 +56,7 @@ append-spec =
     13 0 q)
     (λ c. omega (arith, fits c))
     (λ c. sym (length-take-le _ _ (omega (arith, fits (c .before)))))
-    (λ c κs. length-good (c .before))
+    (λ c κs. search needs)
     (λ c. search needs)
     (λ c. search needs)
     (λ c. search needs)

@@ -13,7 +13,8 @@ check-spec =
     tie.close
     (tie.spec
     (λ c κs. search needs)
-    (λ c. rw (sym (c .before .bad-length .ensures) ∙ c .if1 .taken))
+    (λ c κs. search needs)
+    (λ c. rw (sym (c .before .before .bad-length .ensures) ∙ c .before .if1 .taken) (c .refused-length .ensures))
     (λ c κs. search needs)
     (λ c κs. whole-ranges (c .nothing .ensures) _ (sym (c .before .before .bad-length .ensures) ∙ c .before .if1 .left))
     (λ c.

@@ -1,9 +1,9 @@
 -- A sheet with no bytes, or the check's answer.
 use Rattle.arithmetic.proofs.Chain.{chain}
-use Rattle.operations.specs.Outcomes.{soFar}
+use Rattle.sheet.specs.Check.{soFar}
 use borrow.Author.Needs.{needs}
-use Rattle.operations.proofs.so_far.Statement.{statement}
-use Rattle.operations.proofs.so_far.Tie as tie
+use Rattle.sheet.proofs.so_far.Statement.{statement}
+use Rattle.sheet.proofs.so_far.Tie as tie
 
 pub so-far-spec : {M : Type 1} → statement M
 unfolding soFar
