@@ -18,6 +18,7 @@ use faults::field::cause_of;
 use faults::field::measurement_of;
 use faults::field::record_at;
 use plan::Plan;
+use plans::Row;
 use sheet::Checked;
 use sheet::Refusal;
 use sheet::check;
@@ -127,42 +128,26 @@ impl Standings {
         let hc = self.hc;
         let nox = self.nox;
         let pm = self.pm;
-        let co_row = standings::row(
-            co.looks(),
-            plan,
-            n,
-            co.sum,
-            co.squares,
-            co.level,
-            co.deviation,
-        );
-        let hc_row = standings::row(
-            hc.looks(),
-            plan,
-            n,
-            hc.sum,
-            hc.squares,
-            hc.level,
-            hc.deviation,
-        );
-        let nox_row = standings::row(
-            nox.looks(),
-            plan,
-            n,
-            nox.sum,
-            nox.squares,
-            nox.level,
-            nox.deviation,
-        );
-        let pm_row = standings::row(
-            pm.looks(),
-            plan,
-            n,
-            pm.sum,
-            pm.squares,
-            pm.level,
-            pm.deviation,
-        );
+        let co_row = if co.looks() {
+            standings::row(plan, n, co.sum, co.squares, co.level, co.deviation)
+        } else {
+            Row::Open
+        };
+        let hc_row = if hc.looks() {
+            standings::row(plan, n, hc.sum, hc.squares, hc.level, hc.deviation)
+        } else {
+            Row::Open
+        };
+        let nox_row = if nox.looks() {
+            standings::row(plan, n, nox.sum, nox.squares, nox.level, nox.deviation)
+        } else {
+            Row::Open
+        };
+        let pm_row = if pm.looks() {
+            standings::row(plan, n, pm.sum, pm.squares, pm.level, pm.deviation)
+        } else {
+            Row::Open
+        };
         let engine = n as u8;
         Standings {
             co: co.decide(engine, co_row),

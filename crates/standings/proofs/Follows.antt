@@ -2,6 +2,7 @@
 use Prim.Native.Nat.{ℕ, suc, _+_, _*_, _≤_, _<_}
 use native.Mathlib.Omega.{arith}
 use mathlib.Core.Path.{_≡_, refl, sym, ap, _∙_}
+use mathlib.Core.Logic.{_⊎_, ⊎-elim}
 use mathlib.Core.Bool.{Bool, true, false, not, cond}
 use mathlib.Core.List.{List, [], _∷_, _++_, map}
 use lib.Dec.{eqb}
@@ -23,16 +24,15 @@ use Rattle.standings.specs.Standing.{decisionIs, isUndecided, looksAt, s
 use Rattle.standings.proofs.Ranges.{level-most, added-bounded}
 use Rattle.standings.proofs.Scores.{scores-snoc, squares-snoc, Adds, row-is}
 
--- ---- a row that does not look at the pollutant leaves it as it is
+-- ---- a row decides a pollutant that it looks at, and leaves another as it is
 
-pub decided-row : (n : ℕ) (s : Standing) (r : rules.Row) {looks : Bool} {said : rules.Row} → looks ≡ looksAt s → said ≡ cond looks r rules.undecided
+pub decided-row : (n : ℕ) (s : Standing) (r : rules.Row) {looks : Bool} {said : rules.Row} → looks ≡ looksAt s → (said ≡ r) ⊎ (looks ≡ false)
     → decidedBy n said s ≡ decidedBy n r s
 unfolding decidedBy
-decided-row n s r {looks} {said} e f = cases (looksAt s) refl
+decided-row n s r {looks} {said} e came = ⊎-elim (λ f. ap (λ (x : rules.Row). decidedBy n x s) f) (λ f. left (sym e ∙ f)) came
   where
-    cases : (b : Bool) → looksAt s ≡ b → decidedBy n said s ≡ decidedBy n r s
-    cases true q = ap (λ (x : rules.Row). decidedBy n x s) (rw (e ∙ q) at f)
-    cases false q = rw q refl
+    left : looksAt s ≡ false → decidedBy n said s ≡ decidedBy n r s
+    left q = rw q refl
 
 -- ---- the relation
 

@@ -2,9 +2,7 @@
 //
 // The functions are open to the crate `series` alone, which calls them with numbers that it has bounded (specs/Standing, `Keeps` and `InRow`).
 ghost use mathlib.Core.Path.{_≡_};
-ghost use mathlib.Core.Bool.{cond};
 ghost use Prim.Native.Nat.{_-_, _*_};
-ghost use Rattle.rules.specs.Plans.{undecided};
 ghost use Rattle.rules.specs.Series.{hasFailed, hasPassed};
 ghost use Rattle.plans.specs.Row.{rowIs};
 ghost use Rattle.standings.specs.Standing.{decisionIs, isUndecided, looksAt, takesLogarithms, score, levelOf, started, added, rowFrom, decisionBy, decidedBy, waitsFor, Keeps, InRow, SpreadRange};
@@ -96,8 +94,9 @@ fn spread(n: u64, sum: u64, squares: u64) -> u64
     n * squares - sum * sum
 }
 
-// What row n of the plan says of a pollutant. The numbers come one by one, in registers: a standing would go through memory.
-fn statistics(plan: Plan, n: u64, sum: u64, squares: u64, level: u32, deviation: u32) -> Row
+// What row n of the plan says of a pollutant that it looks at. The numbers come one by one, in registers: a standing would go through memory.
+// For `series` alone, which keeps the sums within `InRow`: so it may require.
+pub fn row(plan: Plan, n: u64, sum: u64, squares: u64, level: u32, deviation: u32) -> Row
     requires { ⌜ InRow plan n sum squares level deviation ⌝ }
     ensures { λ r. ⌜ rowIs r ≡ rowFrom plan n sum squares level deviation ⌝ }
 {
@@ -107,26 +106,6 @@ fn statistics(plan: Plan, n: u64, sum: u64, squares: u64, level: u32, deviation:
         Plan::UnknownDeviation => plans::unknown_row(n, sum, taken, spread(n, sum, squares)),
         Plan::Attributes => plans::attributes_row(n, sum),
         Plan::InService => plans::in_service_row(n, sum, taken, spread(n, sum, squares)),
-    }
-}
-
-// The same where the row looks at the pollutant. For `series` alone, which keeps the sums within `InRow`: so it may require.
-pub fn row(
-    looks: bool,
-    plan: Plan,
-    n: u64,
-    sum: u64,
-    squares: u64,
-    level: u32,
-    deviation: u32,
-) -> Row
-    requires { ⌜ InRow plan n sum squares level deviation ⌝ }
-    ensures { λ r. ⌜ rowIs r ≡ cond looks (rowFrom plan n sum squares level deviation) undecided ⌝ }
-{
-    if looks {
-        statistics(plan, n, sum, squares, level, deviation)
-    } else {
-        Row::Open
     }
 }
 

@@ -1,12 +1,39 @@
--- `row` meets its contract.
+-- `row` meets its contract: in each arm the plan is known, and the row is that plan's.
+use mathlib.Core.Path.{_≡_, _∙_}
+use native.Mathlib.Omega.{arith}
 use borrow.Author.Needs.{needs}
+use Rattle.plan.specs.declared.Plan.{Plan}
+use Rattle.standings.specs.Standing.{rowFrom}
+use Rattle.standings.proofs.Ranges.{RowNumbers, row-numbers}
 use Rattle.standings.proofs.row.Statement.{statement}
 use Rattle.standings.proofs.row.Tie as tie
 
+at : (c : tie.Start) → RowNumbers (c .args .n) (c .args .sum) (c .args .squares) (c .args .level) (c .args .deviation)
+at c = row-numbers (c .pre)
+
+-- the plan that an arm tells, in the definition
+told : (c : tie.Start) {p : Plan} → c .args .plan ≡ p
+    → rowFrom p (c .args .n) (c .args .sum) (c .args .squares) (c .args .level) (c .args .deviation)
+    ≡ rowFrom (c .args .plan) (c .args .n) (c .args .sum) (c .args .squares) (c .args .level) (c .args .deviation)
+told c e = rw e
+
 pub row-spec : {M : Type 1} → statement M
+unfolding rowFrom told
 row-spec =
     tie.close
     (tie.spec
-    (λ c κs. search needs)
-    (λ c. rw (c .before .if1 .taken) (c .statistics .ensures))
-    (λ c. search needs))
+    (λ c. omega (arith, at c))
+    (λ c. search needs)
+    (λ c κs. let s = c .before .before in omega (arith, at s, s .pre .least))
+    (λ c. search needs)
+    (λ c κs. at (c .before .before) .spreads)
+    (λ c κs. let s = c .before .before .before in omega (arith, at s, s .pre .least))
+    (λ c. search needs)
+    (λ c κs. let s = c .before .before in omega (arith, at s, s .pre .least))
+    (λ c. search needs)
+    (λ c κs. at (c .before .before) .spreads)
+    (λ c κs. let s = c .before .before .before in omega (arith, at s, s .pre .least))
+    (λ c. c .known-row .ensures ∙ told (c .before .before .before) (c .before .enum-told .given .1))
+    (λ c. (rw (c .before .spread .ensures) at (c .unknown-row .ensures)) ∙ told (c .before .before .before .before) (c .before .before .enum-told2 .given .1))
+    (λ c. c .attributes-row .ensures ∙ told (c .before .before .before) (c .before .enum-told3 .given .1))
+    (λ c. (rw (c .before .spread2 .ensures) at (c .in-service-row .ensures)) ∙ told (c .before .before .before .before) (c .before .before .enum-told4 .given .1)))

@@ -1,7 +1,9 @@
--- `Standings::at_row` meets its contract: each pollutant is decided by its own row.
-use mathlib.Core.Path.{_∙_}
+-- `Standings::at_row` meets its contract: each pollutant is decided by its own row, or left as it is.
+use mathlib.Core.Path.{ap, _∙_}
+use mathlib.Core.Logic.{inl, inr, ⊎-elim}
 use native.Mathlib.Omega.{arith}
 use borrow.Author.Needs.{needs}
+use Rattle.plans.specs.Row.{rowIs}
 use Rattle.standings.proofs.Ranges.{row-numbers}
 use Rattle.standings.proofs.Follows.{decided-row}
 use Rattle.series.specs.Progress.{lookedAll}
@@ -29,14 +31,22 @@ at-row-spec =
     (λ c κs. search needs)
     (λ c κs. search needs)
     (λ c.
-    let r4 = c .before .before .before .before in
-    let r3 = r4 .before .before in
-    let r2 = r3 .before .before in
-    let r1 = r2 .before .before in
-    let a = r1 .before .before .before .before .before .before .args in
+    let j4 = c .before .before .before .before in
+    let j3 = j4 .before .before in
+    let j2 = j3 .before .before in
+    let j1 = j2 .before .before in
+    let a = j1 .before .before .before .before .before .before .args in
     rw (
-      c .before .before .before .decide .ensures ∙ decided-row (a .n) (a .self .co) _ (r1 .before .looks .ensures) (r1 .row .ensures),
-      c .before .before .decide2 .ensures ∙ decided-row (a .n) (a .self .hc) _ (r2 .before .looks2 .ensures) (r2 .row2 .ensures),
-      c .before .decide3 .ensures ∙ decided-row (a .n) (a .self .nox) _ (r3 .before .looks3 .ensures) (r3 .row3 .ensures),
-      c .decide4 .ensures ∙ decided-row (a .n) (a .self .pm) _ (r4 .before .looks4 .ensures) (r4 .row4 .ensures),
+      c .before .before .before .decide .ensures
+          ∙ decided-row (a .n) (a .self .co) _ (j1 .before .looks .ensures)
+          (⊎-elim (λ w. inl (ap rowIs (w .2) ∙ w .1 .ensures)) (λ w. inr (w .0 .left)) (j1 .if1 .came)),
+      c .before .before .decide2 .ensures
+          ∙ decided-row (a .n) (a .self .hc) _ (j2 .before .looks2 .ensures)
+          (⊎-elim (λ w. inl (ap rowIs (w .2) ∙ w .1 .ensures)) (λ w. inr (w .0 .left)) (j2 .if2 .came)),
+      c .before .decide3 .ensures
+          ∙ decided-row (a .n) (a .self .nox) _ (j3 .before .looks3 .ensures)
+          (⊎-elim (λ w. inl (ap rowIs (w .2) ∙ w .1 .ensures)) (λ w. inr (w .0 .left)) (j3 .if3 .came)),
+      c .decide4 .ensures
+          ∙ decided-row (a .n) (a .self .pm) _ (j4 .before .looks4 .ensures)
+          (⊎-elim (λ w. inl (ap rowIs (w .2) ∙ w .1 .ensures)) (λ w. inr (w .0 .left)) (j4 .if4 .came)),
     )))
