@@ -1,8 +1,8 @@
 -- What the records before one say, as the program keeps it: a record at a time.
-use Prim.Native.Nat.{ℕ, _+_, _<_}
+use Prim.Native.Nat.{ℕ, _+_, _*_, _^_, _≤_, _<_}
 use mathlib.Core.Bool.{cond}
 use lib.Dec.{eqb}
-use Rattle.rules.specs.Sheet.{Record, kind, number, plan, limit, deviation}
+use Rattle.rules.specs.Sheet.{Record, kind, number, plan, limit, deviation, recordSize}
 use Rattle.faults.specs.declared.Quantities.{Quantities}
 use Rattle.faults.specs.declared.Sheet.{Sheet}
 
@@ -81,3 +81,15 @@ sheetWith s r = cond (eqb (kind r) 1) (withPollutant s r) (cond (eqb (kind r) 2)
 pub record Room (s : Sheet) : Type 0 where
   pub pollutants : s .pollutants < 1000
   pub engines : s .engines < 1000
+
+-- what a record that is read must lie within: record k of n bytes is whole
+pub record RecordRange (k n : ℕ) : Type 0 where
+  pub inside : recordSize * k + recordSize ≤ n
+
+-- a byte that a record of n bytes has
+pub record ByteRange (i n : ℕ) : Type 0 where
+  pub inside : i < n
+
+-- the place of a number in a record, far below what a count can hold, so that the bytes behind it have a place too
+pub record PlaceRange (i bits : ℕ) : Type 0 where
+  pub most : i < 2 ^ bits

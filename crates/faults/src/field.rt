@@ -1,14 +1,15 @@
 // The fields of a record, by document 01's "The sheet". A byte past the record's end counts as 0.
 ghost use mathlib.Core.Path.{_≡_};
-ghost use Prim.Native.Nat.{_+_, _*_, _^_, _≤_, _<_};
+ghost use Prim.Native.Nat.{_+_, _*_, _<_};
 ghost use lib.ListN.{length, take, drop};
 ghost use Rattle.rules.specs.Tools.{within, byte, two, four};
 ghost use Rattle.rules.specs.Sheet.{kind, number, plan, limit, deviation, cause, measurement, recordSize};
+ghost use Rattle.faults.specs.State.{RecordRange, ByteRange, PlaceRange};
 use crate::Sheet;
 
 // Record k of a sheet. For `sheet`, `series` and `reading`, which ask for records below the sheet's end: so it may require.
 pub fn record_at(sheet: &[u8], k: usize) -> &[u8]
-    requires { ⌜ recordSize * k + recordSize ≤ length (now sheet) ⌝ }
+    requires { ⌜ RecordRange k (length (now sheet)) ⌝ }
     ensures { λ r. ⌜ now r ≡ take recordSize (drop (recordSize * k) (now (sheet .entry))) ⌝ }
 {
     let start = Sheet::RECORD * k;
@@ -17,7 +18,7 @@ pub fn record_at(sheet: &[u8], k: usize) -> &[u8]
 
 // Byte i of a record that has it.
 fn present(r: &[u8], i: usize) -> u32
-    requires { ⌜ i < length (now r) ⌝ }
+    requires { ⌜ ByteRange i (length (now r)) ⌝ }
     ensures { λ n. ⌜ (n ≡ byte (now (r .entry)) i) × (n < 256) ⌝ }
 {
     r[i] as u32
@@ -31,7 +32,7 @@ pub(crate) fn byte_at(r: &[u8], i: usize) -> u32
 
 // One question for both bytes, so that they are read together.
 pub(crate) fn u16_at(r: &[u8], i: usize) -> u32
-    requires { ⌜ i < 2 ^ 41 ⌝ }
+    requires { ⌜ PlaceRange i 41 ⌝ }
     ensures { λ n. ⌜ (n ≡ two (now (r .entry)) i) × (n < 65536) ⌝ }
 {
     if i + 1 < r.len() {
@@ -43,7 +44,7 @@ pub(crate) fn u16_at(r: &[u8], i: usize) -> u32
 
 // One question for all four bytes, so that they are read together.
 pub(crate) fn u32_at(r: &[u8], i: usize) -> u32
-    requires { ⌜ i < 2 ^ 40 ⌝ }
+    requires { ⌜ PlaceRange i 40 ⌝ }
     ensures { λ n. ⌜ n ≡ four (now (r .entry)) i ⌝ }
 {
     if i + 3 < r.len() {

@@ -114,7 +114,7 @@ impl Sheet {
         self
     }
 
-    // What is said once the record r, which has no fault, is read too. For `sheet` alone, whose loop ends after 37 records, so that no count overflows: so it may require.
+    // What is said once the record r, which has no fault, is read too. For `sheet` alone, whose loop reads at most 37 records after at most 37, so that no count overflows: so it may require.
     pub fn with(self, r: &[u8]) -> Sheet
         requires { ⌜ Room self ⌝ }
         ensures { λ t. ⌜ t ≡ sheetWith self (now (r .entry)) ⌝ }

@@ -1,10 +1,9 @@
 // Plan 1, known deviation: its two tests. Each term that document 01 has with a minus stands on the other side, so that all is unsigned.
 ghost use mathlib.Core.Path.{_≡_};
-ghost use Prim.Native.Nat.{_≤_};
 ghost use lib.IntN.{pos, _-ℤ_};
 ghost use Rattle.rules.specs.Logarithm.{squarings};
 ghost use Rattle.rules.specs.Plans.{knownPasses, knownFails};
-ghost use Rattle.plans.specs.Ranges.{Ranges};
+ghost use Rattle.plans.specs.Ranges.{KnownRanges};
 use plan::Plan;
 
 // A logarithm's unit, 2 to the number of squarings.
@@ -15,7 +14,7 @@ const LOG_OF_TWO: u64 = 693147181;
 
 // "Pass if T × 693,147,181 > A × t × 65,536", "A = 3327 − 66(n−3)", "A and B at 32 are −2112".
 pub(crate) fn passes(n: u64, added: u64, taken: u64, deviation: u64) -> bool
-    requires { ⌜ Ranges n added taken ⌝ ∗ ⌜ deviation ≤ 4000000 ⌝ }
+    requires { ⌜ KnownRanges n added taken deviation ⌝ }
     ensures { λ r. ⌜ r ≡ knownPasses squarings n (pos added -ℤ pos taken) deviation ⌝ }
 {
     let above = added * LOG_OF_TWO;
@@ -30,7 +29,7 @@ pub(crate) fn passes(n: u64, added: u64, taken: u64, deviation: u64) -> bool
 
 // "fail if less than the same with B", "B = −4724 − 66(n−3), and 1 more from n = 10".
 pub(crate) fn fails(n: u64, added: u64, taken: u64, deviation: u64) -> bool
-    requires { ⌜ Ranges n added taken ⌝ ∗ ⌜ deviation ≤ 4000000 ⌝ }
+    requires { ⌜ KnownRanges n added taken deviation ⌝ }
     ensures { λ r. ⌜ r ≡ knownFails squarings n (pos added -ℤ pos taken) deviation ⌝ }
 {
     let above = added * LOG_OF_TWO;

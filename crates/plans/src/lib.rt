@@ -3,13 +3,12 @@
 // No caller of the library reaches these functions: `standings` alone calls them, within the ranges of specs/Ranges.
 // D is given as two naturals, what is added and what is taken away. W is given as `spread`.
 ghost use mathlib.Core.Path.{_≡_};
-ghost use Prim.Native.Nat.{_≤_};
 ghost use lib.Dec.{eqb};
 ghost use lib.IntN.{pos, _-ℤ_};
 ghost use Rattle.rules.specs.Logarithm.{squarings};
 ghost use Rattle.rules.specs.Plans as rules;
 ghost use Rattle.plans.specs.Row.{rowIs};
-ghost use Rattle.plans.specs.Ranges.{Ranges, RowRange};
+ghost use Rattle.plans.specs.Ranges.{Ranges, KnownRanges, RowRange};
 
 mod attributes;
 mod in_service;
@@ -40,7 +39,7 @@ fn decide(passes: bool, last: bool, fails: bool) -> Row
 
 // Plan 1, known deviation. For `standings` alone, which has bounded the sums and the deviation: so it may require.
 pub fn known_row(n: u64, added: u64, taken: u64, deviation: u64) -> Row
-    requires { ⌜ Ranges n added taken ⌝ ∗ ⌜ deviation ≤ 4000000 ⌝ }
+    requires { ⌜ KnownRanges n added taken deviation ⌝ }
     ensures { λ r. ⌜ rowIs r ≡ rules.decide (rules.knownPasses squarings n (pos added -ℤ pos taken) deviation) (eqb n (rules.lastRow rules.knownDeviation))
         (rules.knownFails squarings n (pos added -ℤ pos taken) deviation) ⌝ }
 {

@@ -1,9 +1,9 @@
 // Comparisons of P = 100,000 × D with a number times √W: by signs and squares, "roots never taken". Nothing is divided by √W, and W may be 0.
 ghost use mathlib.Core.Path.{_≡_};
-ghost use Prim.Native.Nat.{_+_, _*_, _^_, _≤_};
+ghost use Prim.Native.Nat.{_+_, _*_, _^_};
 ghost use lib.IntN.{pos, negℤ, _-ℤ_};
 ghost use Rattle.rules.specs.Plans.{rootPasses, rootFails};
-ghost use Rattle.plans.specs.Ranges.{RootRanges, DifferenceRange, NumberRange};
+ghost use Rattle.plans.specs.Ranges.{RootRanges, NegativeRanges, DifferenceRange, NumberRange};
 use wide::Wide;
 
 // P² for P = 100,000 × difference. "Squares exceed 64 bits."
@@ -25,7 +25,7 @@ fn line(x: u64, spread: u64) -> Wide
 
 // For A = −a below 0: "P ≤ A√W means P ≤ 0 and P² ≥ A²W".
 pub(crate) fn at_most_negative(a: u64, added: u64, taken: u64, spread: u64) -> bool
-    requires { ⌜ RootRanges a added taken ⌝ ∗ ⌜ 1 ≤ a ⌝ }
+    requires { ⌜ NegativeRanges a added taken ⌝ }
     ensures { λ r. ⌜ r ≡ rootPasses (negℤ (pos a)) (pos added -ℤ pos taken) (pos spread) ⌝ }
 {
     if added <= taken {

@@ -1,5 +1,5 @@
 -- What judging answers, as document 01's numbers.
-use Prim.Native.Nat.{ℕ, _+_, _*_}
+use Prim.Native.Nat.{ℕ, _+_, _*_, _<_}
 use mathlib.Core.List.{List, [], _∷_}
 use Rattle.rules.specs.Sheet.{recordSize}
 use Rattle.rules.specs.Series as rules
@@ -67,3 +67,7 @@ evidenceLength (FailByRow n) bytes pollutants = recordSize * (pollutants + n)
 evidenceLength (FailByCause n) bytes pollutants = recordSize * (pollutants + n)
 evidenceLength (FailByStop n) bytes pollutants = bytes
 evidenceLength (Referred n) bytes pollutants = bytes
+
+-- the pollutants of a sheet, of which there are at most 4
+pub record PollutantsRange (pollutants : ℕ) : Type 0 where
+  pub few : pollutants < 1000

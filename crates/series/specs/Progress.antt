@@ -149,6 +149,22 @@ pub record InRowAll (plan : Plan) (n : ℕ) (s : Standings) : Type 0 where
   pub nox : InRowOf plan n (s .nox)
   pub pm : InRowOf plan n (s .pm)
 
+-- what a look back over n engines from the record `start` on keeps to, on a sheet of so many bytes
+pub record EnginesRange (bytes start n : ℕ) : Type 0 where
+  pub inside : recordSize * (start + n) ≤ bytes
+  pub few : start + n < 1000
+
+-- the same and the gross emitters among them
+pub record EmitterRanges (bytes start n : ℕ) (e : Emitters) : Type 0 where
+  pub inside : recordSize * (start + n) ≤ bytes
+  pub few : start + n < 1000
+  pub counted : e .count < 1000
+
+-- what row n keeps to, with the measurements of its engines added
+pub record RowRanges (plan : Plan) (n : ℕ) (s : Standings) : Type 0 where
+  pub row : n ≤ lastRow (planIs plan)
+  pub keeps : KeepsAll n s
+
 -- what the row of the engine behind n engines keeps to, on a sheet of so many bytes
 pub record NextRanges (bytes start n : ℕ) (plan : Plan) (p : Progress) : Type 0 where
   pub inside : recordSize * (start + n + 1) ≤ bytes

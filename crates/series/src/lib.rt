@@ -1,17 +1,15 @@
 // The series: rows from 3, all declared pollutants together, in one pass over the engines with running sums.
 ghost use mathlib.Core.Path.{_≡_};
-ghost use Prim.Native.Nat.{_+_, _*_, _≤_, _<_};
+ghost use Prim.Native.Nat.{_+_, _*_};
 ghost use lib.ListN.{length};
 ghost use Rattle.rules.specs.Logarithm.{squarings};
 ghost use Rattle.rules.specs.Sheet.{pollutants, records, recordSize};
-ghost use Rattle.rules.specs.Plans.{lastRow};
 ghost use Rattle.rules.specs.Series.{judgeRecords};
 ghost use Rattle.rules.specs.Refusals as refusals;
 ghost use Rattle.rules.specs.Operations as rules;
-ghost use Rattle.plan.specs.Plan.{planIs};
-ghost use Rattle.series.specs.Progress.{startedAll, addedAll, lookedAll, anyFailed, anyWaits, causedBefore, emittersWith, beforeBy, judgementOf, settledBy, turnBy, nextTurn, ending, KeepsAll, InRowAll, NextRanges, Valid};
+ghost use Rattle.series.specs.Progress.{startedAll, addedAll, lookedAll, anyFailed, anyWaits, causedBefore, emittersWith, beforeBy, judgementOf, settledBy, turnBy, nextTurn, ending, KeepsAll, InRowAll, EnginesRange, EmitterRanges, RowRanges, NextRanges, Valid};
 ghost use Rattle.sheet.specs.Check.{checkedOf};
-ghost use Rattle.series.specs.Answers.{judgementIs, judgedIs, judgedOf, limitsOf, limitsIn, refusalIn, evidenceLength};
+ghost use Rattle.series.specs.Answers.{judgementIs, judgedIs, judgedOf, limitsOf, limitsIn, refusalIn, evidenceLength, PollutantsRange};
 use faults::Quantities;
 use faults::Sheet;
 use faults::field::cause_of;
@@ -201,7 +199,7 @@ impl Standings {
 
 // Whether one of the n engines from the record start on has the cause.
 fn caused_before(bytes: &[u8], start: usize, n: usize, cause: u32) -> bool
-    requires { ⌜ (recordSize * (start + n) ≤ length (now bytes)) × (start + n < 1000) ⌝ }
+    requires { ⌜ EnginesRange (length (now bytes)) start n ⌝ }
     ensures { λ b. ⌜ b ≡ causedBefore (now (bytes .entry)) start n cause ⌝ }
 {
     let mut found = false;
@@ -217,7 +215,7 @@ fn caused_before(bytes: &[u8], start: usize, n: usize, cause: u32) -> bool
 impl Emitters {
     // With one vehicle more, behind the n engines from the record start on.
     fn with(self, bytes: &[u8], start: usize, n: usize, cause: u32) -> Emitters
-        requires { ⌜ (recordSize * (start + n) ≤ length (now bytes)) × (start + n < 1000) × (self .count < 1000) ⌝ }
+        requires { ⌜ EmitterRanges (length (now bytes)) start n self ⌝ }
         ensures { λ e. ⌜ e ≡ emittersWith (now (bytes .entry)) start n cause self ⌝ }
     {
         if cause == 0 {
@@ -274,7 +272,7 @@ fn settle(n: u8, standings: Standings, emitters: Emitters) -> Turn
 
 // Row n of a series that is going on, with the measurements and the causes of its engines added.
 fn row(plan: Plan, n: u64, standings: Standings, emitters: Emitters) -> Turn
-    requires { ⌜ (n ≤ lastRow (planIs plan)) × KeepsAll n standings ⌝ }
+    requires { ⌜ RowRanges plan n standings ⌝ }
     ensures { λ t. ⌜ t ≡ turnBy (beforeBy n emitters) plan n standings emitters ⌝ }
 {
     let first = before_row(n, emitters);
@@ -393,7 +391,7 @@ pub fn judge_with_limits(bytes: &[u8]) -> JudgedWithLimits
 
 // The bytes through the record of engine n, which stands behind the pollutants and n - 1 engines.
 fn through(pollutants: u32, n: u8) -> usize
-    requires { ⌜ pollutants < 1000 ⌝ }
+    requires { ⌜ PollutantsRange pollutants ⌝ }
     ensures { λ e. ⌜ e ≡ recordSize * (pollutants + n) ⌝ }
 {
     Sheet::RECORD * (pollutants as usize + n as usize)
@@ -402,7 +400,7 @@ fn through(pollutants: u32, n: u8) -> usize
 // How many bytes of a sheet of so many bytes and pollutants are evidence for a verdict:
 // "through the deciding engine's record; the whole sheet where undecided, stopped or referred".
 fn evidence_length(verdict: Verdict, length: usize, pollutants: u32) -> usize
-    requires { ⌜ pollutants < 1000 ⌝ }
+    requires { ⌜ PollutantsRange pollutants ⌝ }
     ensures { λ n. ⌜ n ≡ evidenceLength verdict length pollutants ⌝ }
 {
     match verdict {

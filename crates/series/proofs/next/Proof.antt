@@ -24,7 +24,10 @@ next-spec =
     (λ c κs. search needs)
     (λ c κs. search needs)
     (λ c κs. let s = c .before .before .before .before .before .before .before in
-    (s .pre .row, rw (c .before .before .with .ensures) (all-added (s .args .plan) (s .args .n) (s .args .progress .standings) _ (s .pre .keeps))))
+    record {
+      row = s .pre .row;
+      keeps = rw (c .before .before .with .ensures) (all-added (s .args .plan) (s .args .n) (s .args .progress .standings) _ (s .pre .keeps));
+    })
     (λ c.
     let w = c .before .before .before in
     let a = c .before .before .before .before .before .before .before .before .args in

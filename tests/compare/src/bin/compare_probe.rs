@@ -108,28 +108,16 @@ fn compare_corpus(corpus: &Corpus, tally: &mut Tally) {
     let mut sheets = 0usize;
     let _ = corpus.visit(&mut |origin, sheet| {
         sheets += 1;
-        let library = answers(&LIBRARY, sheet, &mut pages);
         let second = answers(&SECOND, sheet, &mut pages);
-        tally.compare(
-            sheet,
-            || format!("evidence of a {origin}"),
-            library.0,
-            second.0,
-        );
-        tally.compare(
-            sheet,
-            || format!("lines of a {origin}"),
-            library.1,
-            second.1,
-        );
+        let mut compare = |library: Answers| {
+            let evidence = || format!("evidence of a {origin}");
+            tally.compare(sheet, evidence, library.0, second.0);
+            let lines = || format!("lines of a {origin}");
+            tally.compare(sheet, lines, &library.1, &second.1);
+        };
+        compare(answers(&LIBRARY, sheet, &mut pages));
         if sheets.is_multiple_of(8) {
-            let library = answers(&LIBRARY, sheet, &mut Boxes);
-            tally.compare(
-                sheet,
-                || format!("evidence of a {origin}"),
-                library.0,
-                second.0,
-            );
+            compare(answers(&LIBRARY, sheet, &mut Boxes));
         }
         ControlFlow::Continue(())
     });
@@ -137,7 +125,9 @@ fn compare_corpus(corpus: &Corpus, tally: &mut Tally) {
 }
 
 /// The evidence and the printed lines.
-fn answers(operations: &Operations, sheet: &[u8], lender: &mut impl Lender) -> (Evidence, String) {
+type Answers = (Evidence, String);
+
+fn answers(operations: &Operations, sheet: &[u8], lender: &mut impl Lender) -> Answers {
     let (evidence, _) = lender.lend(sheet, &[], Edge::End, |sheet, _| {
         (operations.evidence)(sheet)
     });

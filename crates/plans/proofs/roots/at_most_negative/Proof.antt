@@ -14,5 +14,5 @@ at-most-negative-spec =
     (λ c κs. search needs)
     (λ c.
     not-less (c .less .ensures) (c .before .before .square .ensures) (c .before .line .ensures)
-    ∙ at-most-negative-low _ _ _ _ (c .before .before .before .before .pre .1) (c .before .before .before .if1 .taken))
-    (λ c. at-most-negative-high _ _ _ _ (c .before .pre .1) (c .if1 .left)))
+    ∙ at-most-negative-low _ _ _ _ (c .before .before .before .before .pre .number-least) (c .before .before .before .if1 .taken))
+    (λ c. at-most-negative-high _ _ _ _ (c .before .pre .number-least) (c .if1 .left)))
