@@ -1,5 +1,8 @@
-/* Writes the sample sheets and the lines that document 01 gives for each: NAME.sheet and NAME.lines, into the folder named.
-   The lines are typed here from the document and not computed. */
+/* Writes the sample sheets, the lines that document 01 gives for each and, for a refused one, what `verdict` says of it
+   to people: NAME.sheet, NAME.lines and NAME.why, into the folder named. The lines are typed here from the document and
+   not computed; a refusal's sentence is that of the header, with which the program's has to agree. */
+#include <conformity.h>
+
 #include <stdint.h>
 #include <stdio.h>
 #include <stdlib.h>
@@ -69,6 +72,19 @@ static void sample(const char *name, const char *lines) {
     length = 0;
 }
 
+/* The records so far are refused with a number, at a record that is what `what` says; NULL where none is named. */
+static void refused(const char *name, unsigned number, unsigned record, const char *what) {
+    char lines[32], why[256];
+    const char *text = conformity_refusal_text(number);
+    snprintf(lines, sizeof lines, "refused %u %u\n", number, record);
+    if (what == NULL)
+        snprintf(why, sizeof why, "verdict: %s\n", text);
+    else
+        snprintf(why, sizeof why, "verdict: record %u (%s): %s\n", record, what, text);
+    put(name, "why", why, strlen(why));
+    sample(name, lines);
+}
+
 /* "Series that stand on a line" */
 static void on_a_line(void) {
     pollutant(4, 3, 150, 0);
@@ -112,7 +128,7 @@ static void on_a_line(void) {
     sample("in-service-1501", "another 1 0\n1 open 0\n");
     pollutant(1, 4, 1000, 0);
     measured(1, 1501);
-    sample("in-service-1501-without-cause", "refused 9 1\n");
+    refused("in-service-1501-without-cause", 9, 1, "engine 1");
     pollutant(1, 4, 1000, 0);
     engine(7, 1501, 0, 0, 0);
     engine(7, 1501, 0, 0, 0);
@@ -194,55 +210,55 @@ static void others(void) {
 
 /* "What each operation turns down" */
 static void refusals(void) {
-    sample("refused-01-no-bytes", "refused 1 0\n");
+    refused("refused-01-no-bytes", 1, 0, NULL);
     pollutant(1, 1, 4000, 625020);
     length--;
-    sample("refused-01-not-whole", "refused 1 0\n");
+    refused("refused-01-not-whole", 1, 0, NULL);
     pollutant(1, 1, 4000, 625020);
     measured(37, 2000);
-    sample("refused-01-38-records", "refused 1 0\n");
+    refused("refused-01-38-records", 1, 0, NULL);
     pollutant(1, 1, 4000, 625020);
     measured(399, 2000);
-    sample("refused-01-400-records", "refused 1 0\n");
+    refused("refused-01-400-records", 1, 0, NULL);
 
     while (length < 20) byte(9);
-    sample("refused-02", "refused 2 0\n");
+    refused("refused-02", 2, 0, "kind 9");
     stop();
-    sample("refused-03-first", "refused 3 0\n");
+    refused("refused-03-first", 3, 0, "stop");
     pollutant(1, 3, 150, 0);
     measured(1, 1);
     pollutant(2, 3, 150, 0);
-    sample("refused-03-pollutant-after-engine", "refused 3 2\n");
+    refused("refused-03-pollutant-after-engine", 3, 2, "pollutant 2");
     pollutant(1, 3, 150, 0);
     stop();
     stop();
-    sample("refused-03-after-stop", "refused 3 2\n");
+    refused("refused-03-after-stop", 3, 2, "stop");
     pollutant(2, 3, 150, 0);
     pollutant(2, 3, 150, 0);
-    sample("refused-04", "refused 4 1\n");
+    refused("refused-04", 4, 1, "pollutant 2");
     pollutant(2, 3, 150, 0);
     pollutant(3, 2, 150, 0);
-    sample("refused-05", "refused 5 1\n");
+    refused("refused-05", 5, 1, "pollutant 3");
     pollutant(2, 3, 10000000, 0);
-    sample("refused-06", "refused 6 0\n");
+    refused("refused-06", 6, 0, "pollutant 2");
     pollutant(2, 1, 10000, 4000001);
-    sample("refused-07", "refused 7 0\n");
+    refused("refused-07", 7, 0, "pollutant 2");
     pollutant(2, 2, 10000, 0);
     measured(1, 1);
-    sample("refused-08", "refused 8 1\n");
+    refused("refused-08", 8, 1, "engine 1");
     pollutant(1, 4, 10000, 0);
     engine(3, 20, 0, 0, 0);
-    sample("refused-09", "refused 9 1\n");
+    refused("refused-09", 9, 1, "engine 1");
     pollutant(1, 3, 150, 0);
     measured(20, 150);
-    sample("refused-10", "refused 10 20\n");
+    refused("refused-10", 10, 20, "engine 20");
     pollutant(1, 4, 10000, 0);
     stop();
-    sample("refused-11", "refused 11 1\n");
+    refused("refused-11", 11, 1, "stop");
     pollutant(1, 3, 150, 0);
     stop();
     sheet[21] = 1;
-    sample("refused-12", "refused 12 1\n");
+    refused("refused-12", 12, 1, "stop");
 }
 
 int main(int count, char **words) {

@@ -6,7 +6,11 @@ ghost use Rattle.rules.specs.Sheet.{pollutants};
 ghost use Rattle.rules.specs.Refusals as refusals;
 ghost use Rattle.rules.specs.Operations as rules;
 ghost use Rattle.rules.specs.Printed.{printed};
+ghost use Rattle.reading.specs.Steps.{stepAt, leftAt};
 ghost use Rattle.probe.specs.Placed.{placed};
+ghost use Rattle.probe.specs.Walked.{reached, numbersOf};
+use reading::Step;
+use reading::turn_at;
 
 // uint32_t probe_logarithm(uint32_t m)
 #[no_mangle]
@@ -40,4 +44,61 @@ pub extern "C" fn probe_lines(sheet: &[u8], output: &mut [u8]) -> usize
         bytes::copy(&bytes[..n], output);
     }
     n
+}
+
+// A reader that stands at the start is moved on k times, or to the end.
+fn walked(sheet: &[u8], k: usize) -> usize
+    ensures { λ n. ⌜ n ≡ reached (now (sheet .entry)) k ⌝ }
+{
+    let mut at: usize = 0;
+    let mut i: usize = 0;
+    while i < k {
+        let turn = turn_at(sheet, at);
+        if turn.left == 0 {
+            return at;
+        }
+        at = turn.next;
+        i += 1;
+    }
+    at
+}
+
+fn numbers_of(step: Step) -> [u32; 6]
+    ensures { λ ns. ⌜ ns ≡ numbersOf step ⌝ }
+{
+    match step {
+        Step::Pollutant {
+            number,
+            plan,
+            limit,
+            deviation,
+        } => [1, number, plan, limit, deviation, 0],
+        Step::Engine {
+            cause,
+            measurements,
+        } => [
+            2,
+            cause,
+            measurements.co,
+            measurements.hc,
+            measurements.nox,
+            measurements.pm,
+        ],
+        Step::Stop => [3, 0, 0, 0, 0, 0],
+        Step::Other { kind } => [4, kind, 0, 0, 0, 0],
+        Step::End => [5, 0, 0, 0, 0, 0],
+    }
+}
+
+// What a reader finds that was moved on k times: which of the five steps, and its fields, at numbers; and as the answer how many records are left there.
+// size_t probe_step(const uint8_t *sheet, size_t sheet_length, size_t k, uint32_t numbers[6])
+#[no_mangle]
+pub extern "C" fn probe_step(sheet: &[u8], k: usize, numbers: &mut [u32; 6]) -> usize
+    ensures { λ n. ⌜ n ≡ leftAt (now (sheet .entry)) (reached (now (sheet .entry)) k) ⌝ }
+    ensures { λ _. ⌜ now (numbers .exit) ≡ numbersOf (stepAt (now (sheet .entry)) (reached (now (sheet .entry)) k)) ⌝ }
+{
+    let turn = turn_at(sheet, walked(sheet, k));
+    let step = turn.step;
+    *numbers = numbers_of(step);
+    turn.left
 }

@@ -9,6 +9,7 @@ use Rattle.rules.specs.Sheet.{Record, pollutants, records, kind, number, plan, 
 use Rattle.reading.specs.declared.SheetReader.{SheetReader}
 use Rattle.reading.specs.declared.Step.{Step}
 use Rattle.reading.specs.declared.Step.the-variants.{Pollutant, Engine, Stop, Other, End}
+use Rattle.reading.specs.declared.Turn.{Turn}
 
 -- "byte 1 pollutant number ..; byte 2 plan ..; bytes 4-7 limit L; bytes 8-11 deviation t"
 unfoldable pub pollutantStep : Record → Step
@@ -34,9 +35,14 @@ leftAt b k = length (records pollutants b) - k
 unfoldable pub nextAt : (b : List ℕ) (k : ℕ) → ℕ
 nextAt b k = cond (ltb k (length (records pollutants b))) (k + 1) k
 
--- "the lent bytes and the number of the next record": at the start, and behind the record that a reader stands at
-abbrev pub started : RefT (List ℕ) → SheetReader
-started bytes = record { bytes = bytes; next = 0 }
+-- "the lent bytes and the number of the next record"
+abbrev pub reader : RefT (List ℕ) → ℕ → SheetReader
+reader bytes k = record { bytes = bytes; next = k }
 
+-- behind the record that a reader stands at
 abbrev pub advanced : SheetReader → SheetReader
 advanced r = record { bytes = r .bytes; next = nextAt (now (r .bytes)) (r .next) }
+
+-- one turn of a walk: what stands at a number, the number after it, and the whole records from it on
+abbrev pub turnAt : (b : List ℕ) (k : ℕ) → Turn
+turnAt b k = record { step = stepAt b k; next = nextAt b k; left = leftAt b k }

@@ -1,7 +1,7 @@
 // "A sheet under reading is the lent bytes and the number of the next record": a struct over the slice, and few functions over it.
 // Each takes the struct apart and leaves the work to a function on the slice and the number.
 ghost use mathlib.Core.Path.{_≡_};
-ghost use Rattle.reading.specs.Steps.{pollutantStep, engineStep, stepOf, stepAt, leftAt, nextAt, started, advanced};
+ghost use Rattle.reading.specs.Steps.{pollutantStep, engineStep, stepOf, stepAt, leftAt, nextAt, reader, advanced, turnAt};
 use faults::Quantities;
 use faults::Sheet;
 use faults::field::cause_of;
@@ -108,10 +108,11 @@ pub struct SheetReader<'a> {
 }
 
 impl<'a> SheetReader<'a> {
-    pub fn start(bytes: &'a [u8]) -> SheetReader<'a>
-        ensures { λ r. ⌜ r ≡ started (bytes .entry) ⌝ }
+    // The reader that stands before record `next`.
+    pub fn at(bytes: &'a [u8], next: usize) -> SheetReader<'a>
+        ensures { λ r. ⌜ r ≡ reader (bytes .entry) next ⌝ }
     {
-        SheetReader { bytes, next: 0 }
+        SheetReader { bytes, next }
     }
 
     // What stands at the next number.
@@ -140,9 +141,24 @@ impl<'a> SheetReader<'a> {
     }
 }
 
-// What the sheet begins with. Its parameters are plain, so whoever calls it needs no walk of a reader.
-pub fn first(bytes: &[u8]) -> Step
-    ensures { λ s. ⌜ s ≡ stepAt (now (bytes .entry)) 0 ⌝ }
+// One turn of a walk over a sheet: what stands at a number, the number after it, and how many whole records are left from it on.
+pub struct Turn {
+    pub step: Step,
+    pub next: usize,
+    pub left: usize,
+}
+
+// A reader that stands at the number is read and moved on. The parameters are plain, so whoever calls it needs no walk of a reader.
+pub fn turn_at(bytes: &[u8], at: usize) -> Turn
+    ensures { λ t. ⌜ t ≡ turnAt (now (bytes .entry)) at ⌝ }
 {
-    SheetReader::start(bytes).read()
+    let reader = SheetReader::at(bytes, at);
+    let step = reader.read();
+    let left = reader.left();
+    let behind = reader.advance();
+    Turn {
+        step,
+        next: behind.next,
+        left,
+    }
 }

@@ -1,7 +1,8 @@
 -- `print` meets its contract: the lines of the judgement, or of the refusal.
-use mathlib.Core.Path.{_∙_}
+use mathlib.Core.Path.{subst}
 use borrow.Author.Needs.{needs}
-use Rattle.printing.proofs.Written.{written}
+use Rattle.lines.specs.Writing.{Written}
+use Rattle.lines.proofs.Written.{written}
 use Rattle.printing.proofs.Printing.{printed-refusal, printed-judgement}
 use Rattle.printing.proofs.print.Statement.{statement}
 use Rattle.printing.proofs.print.Tie as tie
@@ -18,10 +19,8 @@ print-spec =
     (λ c.
     let t = c .before .before .judged .given .1 in
     let e = c .before .before .before .before .judge-with-limits .ensures in
-    let w = written (c .judgement-lines .ensures) in
-    (w .0 ∙ printed-judgement _ _ _ (rw t at (e .0)) (rw t at (e .1)), w .1, w .2))
+    subst (Written _) (printed-judgement _ _ _ (rw t at (e .0)) (rw t at (e .1))) (written (c .judgement-lines .ensures)))
     (λ c.
     let t = c .before .before .judged2 .given .1 in
     let e = c .before .before .before .before .judge-with-limits .ensures in
-    let w = written (c .refusal-lines .ensures) in
-    (w .0 ∙ printed-refusal _ _ _ (rw t at (e .0)), w .1, w .2)))
+    subst (Written _) (printed-refusal _ _ _ (rw t at (e .0))) (written (c .refusal-lines .ensures))))

@@ -1,9 +1,0 @@
--- `nothing` meets its contract.
-use mathlib.Core.Path.{refl}
-use Rattle.printing.specs.Writing.{nothing}
-use Rattle.printing.proofs.Lines.nothing.Statement.{statement}
-use Rattle.printing.proofs.Lines.nothing.Tie as tie
-
-pub nothing-spec : {M : Type 1} → statement M
-unfolding nothing
-nothing-spec = tie.close (tie.spec (λ c. refl))
