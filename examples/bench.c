@@ -2,48 +2,110 @@
  * bench - control program of an engine test bench
  *
  *     bench [-o FILE] < lines-of-the-test-cell
+ *     bench -h
  *
- *     plan N                              1 to 4; once, before the limits
+ * LINES
+ *
+ *     plan N                              1 to 4, before the limits
  *     limit POLLUTANT LIMIT [DEVIATION]   pollutant co, hc, nox, pm or a number; limit in
  *                                         thousandths of its unit; deviation in millionths,
  *                                         plan 1 only
  *     engine [co=X] [hc=X] [nox=X] [pm=X] [cause=C]     measurements in thousandths
  *     stop                                testing stopped by the manufacturer
  *
- * Empty lines and lines that begin with # are passed over. After each engine, and after a stop,
- * the program prints how the series stands; it stops reading when the series is decided. A line
- * that is not understood, or that the library refuses, is told, and the test goes on with the
- * sheet as it was. With -o the sheet is also kept in FILE, which the program `verdict` reads.
+ * Numbers are whole: no sign, no decimal point, no comma. Upper case is read as lower case. Empty
+ * lines, lines that begin with # and a byte order mark at the start say nothing, nor does a plan
+ * or a limit that stands already: cells send theirs at every start. Lines end in LF or CR LF; the
+ * last one may have no end.
  *
- * Exit status: 0 decided, 1 undecided when the lines end, 2 wrong usage or an I/O error.
+ * After each engine, and after a stop, the program prints how the series stands; it stops reading
+ * when the series is decided. A line that is not understood, or that the library refuses, is
+ * passed over: it is told with the reason, and the test goes on with the sheet as it was. Without
+ * that limit or engine the series may pass where it would have failed, so a decision after such a
+ * line has an exit status of its own, and the last line counts the lines passed over.
+ *
+ * FILE
+ *
+ * With -o the sheet is kept in FILE, which the program `verdict` reads. A record is on the disk
+ * before the next line is read. A FILE that holds a sheet is resumed: plan, limits and engines
+ * are those of the sheet. The bytes of a record that a crash has torn are told, and cut when the
+ * next record is written. A FILE that is no sheet, or that another bench keeps, is left as it is.
+ * A pipe or a device is only written to.
+ *
+ * EXIT STATUS
+ *
+ *     0  decided
+ *     1  undecided when the lines end
+ *     2  wrong usage, a FILE that is no sheet or is taken, or an I/O error: see standard error
+ *     3  decided, but lines were passed over
  *
  * Only the library says whether a record is acceptable and what the verdict is.
  */
+#define _POSIX_C_SOURCE 200809L
+
 #include <conformity.h>
 
 #include <ctype.h>
 #include <errno.h>
+#include <fcntl.h>
+#include <poll.h>
+#include <signal.h>
 #include <stdio.h>
 #include <stdlib.h>
 #include <string.h>
+#include <sys/stat.h>
+#include <unistd.h>
 
 #define BLANKS " \t\r"
-#define MOST_WORDS 7 /* one more than any line has, so that a longer one is not understood */
+#define BYTE_ORDER_MARK "\xef\xbb\xbf"
+#define MOST_WORDS 7 /* one more than any line has, so that a longer one is seen to be longer */
 
-enum outcome { DECIDED = 0, UNDECIDED = 1, TROUBLE = 2 }; /* also the exit status */
+/* Also the exit status; the last: decided, but lines were passed over. */
+enum outcome { HELPED = 0, DECIDED = 0, UNDECIDED = 1, TROUBLE = 2, DECIDED_ON_LESS = 3 };
 
-/* What a line makes: a record of this kind (enum conformity_kind), or one of these. */
-enum { NOT_UNDERSTOOD = -1, NO_RECORD = 0 };
+/* Places in a record (docs/FORMAT.md, section 1): the header builds records, but reads none. */
+enum { KIND = 0, POLLUTANT = 1, PLAN = 2 };
+#define NO_RECORD 0 /* no kind of record has this number */
 
 struct test {
     uint8_t sheet[CONFORMITY_SHEET_MAX];
     size_t used;
-    uint32_t plan; /* 0, which the library refuses, until its line has come */
-    uint32_t engines;
-    uint32_t declared[CONFORMITY_POLLUTANTS + 1]; /* on the sheet, and one being tried */
-    size_t declared_count;
-    FILE *copy; /* the file of -o, or NULL */
+    uint32_t plan; /* 0, which the library refuses, until a line or the sheet has named it */
+    unsigned long line_number;
+    unsigned long passed_over;
+    unsigned long first_passed_over;
+    const char *path; /* of the file of -o, or NULL */
+    int file;
 };
+
+struct input {
+    uint8_t bytes[4096];
+    size_t next;
+    size_t count;
+    int ended;
+    int error; /* errno of the read that failed, or 0 */
+};
+
+static const char HELP[] =
+    "usage: bench [-o FILE] < lines\n"
+    "\n"
+    "lines:\n"
+    "  plan N                              1 to 4, before the limits\n"
+    "  limit POLLUTANT LIMIT [DEVIATION]   pollutant co, hc, nox, pm or a number; limit in\n"
+    "                                      thousandths of its unit; deviation in millionths,\n"
+    "                                      plan 1 only\n"
+    "  engine [co=X] [hc=X] [nox=X] [pm=X] [cause=C]     measurements in thousandths\n"
+    "  stop                                testing stopped by the manufacturer\n"
+    "Numbers are whole: no sign, no decimal point, no comma. Empty lines and lines that begin\n"
+    "with # say nothing.\n"
+    "\n"
+    "-o FILE keeps the sheet in FILE, and resumes the sheet that FILE holds.\n"
+    "\n"
+    "exit status:\n"
+    "  0  decided\n"
+    "  1  undecided when the lines end\n"
+    "  2  wrong usage, a FILE that is no sheet or is taken, or an I/O error: see standard error\n"
+    "  3  decided, but lines were passed over\n";
 
 static const char *const POLLUTANTS[] = {"none", "co", "hc", "nox", "pm"};
 static const char *const VERDICTS[] = {"another", "pass", "fail", "referred"};
@@ -57,19 +119,40 @@ static const char *word_of(const char *const words[], size_t count, uint32_t num
     return number < count ? words[number] : "unknown";
 }
 
-/* ---- Understanding a line ---- */
-
-static int read_number(const char *text, uint32_t *number)
+/* Says on standard error why the exit status is 2; where that fails, on standard output. */
+static enum outcome trouble(const char *where, const char *why)
 {
-    char *end;
-    unsigned long value;
-    if (!isdigit((unsigned char)text[0])) { /* strtoul would take a sign */
-        return 0;
+    if (fprintf(stderr, "bench: %s: %s\n", where, why) < 0) {
+        printf("bench: %s: %s\n", where, why);
+    }
+    return TROUBLE;
+}
+
+/* ---- Understanding a line: each answers what is wrong, or NULL ---- */
+
+static const char *read_number(const char *text, uint32_t *number)
+{
+    const char *end = text + strspn(text, "0123456789");
+    unsigned long long value;
+    if (*text == '\0') {
+        return "a number is missing";
+    }
+    if (*text == '+' || *text == '-') {
+        return "a number has a sign";
+    }
+    if (*end == '.' || *end == ',') {
+        return "a decimal point or comma: limits and measurements are whole thousandths";
+    }
+    if (*end != '\0') {
+        return "a number has other characters than digits";
     }
     errno = 0;
-    value = strtoul(text, &end, 10);
+    value = strtoull(text, NULL, 10);
+    if (errno != 0 || value > UINT32_MAX) {
+        return "a number is too large";
+    }
     *number = (uint32_t)value;
-    return errno == 0 && *end == '\0' && value <= UINT32_MAX;
+    return NULL;
 }
 
 /* 0 where no pollutant has this name. */
@@ -82,87 +165,150 @@ static uint32_t pollutant_named(const char *name)
     return pollutant;
 }
 
-static int read_plan(struct test *test, char **words, size_t count)
+static const char *read_pollutant(const char *word, uint32_t *pollutant)
 {
-    uint32_t plan;
-    if (count != 2 || test->plan != 0 || !read_number(words[1], &plan) ||
-        plan < CONFORMITY_PLAN_KNOWN_DEVIATION || plan > CONFORMITY_PLAN_IN_SERVICE) {
-        return NOT_UNDERSTOOD;
+    *pollutant = pollutant_named(word);
+    if (*pollutant != 0) {
+        return NULL;
+    }
+    return isalpha((unsigned char)word[0]) ? "an unknown name" : read_number(word, pollutant);
+}
+
+static const char *wrong_count(size_t count, size_t least, size_t most)
+{
+    return count < least ? "too few words" : count > most ? "too many words" : NULL;
+}
+
+static const char *read_plan(struct test *test, char **words, size_t count)
+{
+    uint32_t plan = 0;
+    const char *fault = wrong_count(count, 2, 2);
+    if (fault == NULL) {
+        fault = read_number(words[1], &plan);
+    }
+    if (fault != NULL) {
+        return fault;
+    }
+    if (plan < CONFORMITY_PLAN_KNOWN_DEVIATION || plan > CONFORMITY_PLAN_IN_SERVICE) {
+        return "the plan is not 1 to 4";
+    }
+    if (test->plan != 0 && test->plan != plan) {
+        return "a second plan, unlike the first";
     }
     test->plan = plan; /* which goes into the record of each limit */
-    return NO_RECORD;
+    return NULL;
 }
 
-static int read_limit(struct test *test, char **words, size_t count, uint8_t *record)
+static const char *read_limit(uint32_t plan, char **words, size_t count, uint8_t *record)
 {
-    uint32_t *pollutant = &test->declared[test->declared_count];
-    uint32_t limit, deviation = 0;
-    if (count < 3 || count > 4 || !read_number(words[2], &limit) ||
-        (count == 4 && !read_number(words[3], &deviation))) {
-        return NOT_UNDERSTOOD;
+    uint32_t pollutant = 0, limit = 0, deviation = 0;
+    const char *fault = wrong_count(count, 3, 4);
+    if (fault == NULL) {
+        fault = read_pollutant(words[1], &pollutant);
     }
-    *pollutant = pollutant_named(words[1]);
-    if (*pollutant == 0 && !read_number(words[1], pollutant)) {
-        return NOT_UNDERSTOOD;
+    if (fault == NULL) {
+        fault = read_number(words[2], &limit);
     }
-    conformity_pollutant_record(record, *pollutant, test->plan, limit, deviation);
-    return CONFORMITY_KIND_POLLUTANT;
+    if (fault == NULL && count == 4) {
+        fault = read_number(words[3], &deviation);
+    }
+    if (fault == NULL) {
+        conformity_pollutant_record(record, pollutant, plan, limit, deviation);
+    }
+    return fault;
 }
 
-static int read_engine(char **words, size_t count, uint8_t *record)
+/* NAME=NUMBER. The cause has place 0 among the values, each pollutant that of its number. */
+static const char *read_value(char *word, uint32_t *values, int *given)
 {
-    uint32_t values[1 + CONFORMITY_POLLUTANTS] = {0}; /* the cause, then the measurements */
+    size_t name_length = strcspn(word, "=");
+    const char *number = word[name_length] == '=' ? word + name_length + 1 : "";
+    uint32_t place;
+    word[name_length] = '\0';
+    place = pollutant_named(word);
+    if (place == 0 && strcmp(word, "cause") != 0) {
+        return "an unknown name";
+    }
+    if (given[place]) {
+        return "a name is given twice";
+    }
+    given[place] = 1;
+    return read_number(number, &values[place]);
+}
+
+static const char *read_engine(char **words, size_t count, uint8_t *record)
+{
+    uint32_t values[1 + CONFORMITY_POLLUTANTS] = {0};
     int given[1 + CONFORMITY_POLLUTANTS] = {0};
+    const char *fault = wrong_count(count, 2, 2 + CONFORMITY_POLLUTANTS);
     size_t i;
-    for (i = 1; i < count; i++) {
-        char *equals = strchr(words[i], '=');
-        uint32_t place;
-        if (equals == NULL) {
-            return NOT_UNDERSTOOD;
-        }
-        *equals = '\0';
-        place = pollutant_named(words[i]);
-        if ((place == 0 && strcmp(words[i], "cause") != 0) || given[place] ||
-            !read_number(equals + 1, &values[place])) {
-            return NOT_UNDERSTOOD;
-        }
-        given[place] = 1;
+    for (i = 1; i < count && fault == NULL; i++) {
+        fault = read_value(words[i], values, given);
     }
-    conformity_engine_record(record, values[0], values + 1);
-    return CONFORMITY_KIND_ENGINE;
+    if (fault == NULL) {
+        conformity_engine_record(record, values[0], values + 1);
+    }
+    return fault;
 }
 
-static int read_words(struct test *test, char **words, size_t count, uint8_t *record)
+static const char *read_words(struct test *test, char **words, size_t count, uint8_t *record)
 {
     if (strcmp(words[0], "plan") == 0) {
         return read_plan(test, words, count);
     }
     if (strcmp(words[0], "limit") == 0) {
-        return read_limit(test, words, count, record);
+        return read_limit(test->plan, words, count, record);
     }
     if (strcmp(words[0], "engine") == 0) {
         return read_engine(words, count, record);
     }
-    conformity_stop_record(record);
-    return count == 1 && strcmp(words[0], "stop") == 0 ? CONFORMITY_KIND_STOP : NOT_UNDERSTOOD;
+    if (strcmp(words[0], "stop") == 0) {
+        conformity_stop_record(record);
+        return wrong_count(count, 1, 1);
+    }
+    return "an unknown name";
 }
 
-/* ---- The test ---- */
+/* ---- The sheet ---- */
 
-static enum outcome trouble(const char *where)
+static uint32_t engines_on(const struct test *test)
 {
-    perror(where);
-    return TROUBLE;
+    uint32_t engines = 0;
+    size_t at;
+    for (at = 0; at < test->used; at += CONFORMITY_RECORD_SIZE) {
+        engines += test->sheet[at + KIND] == CONFORMITY_KIND_ENGINE;
+    }
+    return engines;
+}
+
+/* The bytes that the sheet's pollutants with their limits take: they come first. */
+static size_t limits_on(const struct test *test)
+{
+    size_t end = 0;
+    while (end < test->used && test->sheet[end + KIND] == CONFORMITY_KIND_POLLUTANT) {
+        end += CONFORMITY_RECORD_SIZE;
+    }
+    return end;
+}
+
+static int is_limit_on(const struct test *test, const uint8_t *record)
+{
+    size_t at;
+    for (at = 0; at < limits_on(test); at += CONFORMITY_RECORD_SIZE) {
+        if (memcmp(test->sheet + at, record, CONFORMITY_RECORD_SIZE) == 0) {
+            return 1;
+        }
+    }
+    return 0;
 }
 
 static enum outcome print_standing(const struct test *test)
 {
     uint8_t report[CONFORMITY_REPORT_SIZE];
     uint32_t verdict;
-    size_t i;
+    size_t at;
     if (conformity_report(test->sheet, test->used, report, sizeof report) != 0) {
-        fputs("bench: the library refuses a sheet that it has accepted\n", stderr);
-        return TROUBLE;
+        return trouble("library", "it refuses a sheet that it has accepted");
     }
     verdict = conformity_report_verdict(report);
     fputs(WORD(VERDICTS, verdict), stdout);
@@ -170,8 +316,8 @@ static enum outcome print_standing(const struct test *test)
         printf(" at %u (%s)", (unsigned)conformity_report_engine(report),
                WORD(GROUNDS, conformity_report_ground(report)));
     }
-    for (i = 0; i < test->declared_count; i++) {
-        uint32_t pollutant = test->declared[i];
+    for (at = 0; at < limits_on(test); at += CONFORMITY_RECORD_SIZE) {
+        uint32_t pollutant = test->sheet[at + POLLUTANT];
         uint32_t decision = conformity_report_decision(report, pollutant);
         printf("; %s %s", WORD(POLLUTANTS, pollutant), WORD(DECISIONS, decision));
         if (decision != CONFORMITY_DECISION_OPEN) {
@@ -182,116 +328,339 @@ static enum outcome print_standing(const struct test *test)
     return verdict == CONFORMITY_VERDICT_ANOTHER ? UNDECIDED : DECIDED;
 }
 
-/* What follows once the library has added the record to the sheet. */
-static enum outcome take_record(struct test *test, const uint8_t *record, int kind)
+/* ---- The file of -o ---- */
+
+static int read_file(int file, uint8_t *bytes, size_t size, size_t *length)
 {
-    test->used += CONFORMITY_RECORD_SIZE;
-    /* To the file at once: a test that is broken off loses no engine. */
-    if (test->copy != NULL && (fwrite(record, CONFORMITY_RECORD_SIZE, 1, test->copy) != 1 ||
-                               fflush(test->copy) != 0)) {
-        return trouble("bench: writing the sheet");
+    ssize_t count = 1;
+    *length = 0;
+    while (count != 0 && *length < size) {
+        count = read(file, bytes + *length, size - *length);
+        if (count < 0 && errno != EINTR) {
+            return 0;
+        }
+        *length += count > 0 ? (size_t)count : 0;
     }
-    if (kind == CONFORMITY_KIND_POLLUTANT) {
-        test->declared_count++;
+    return 1;
+}
+
+static int write_file(int file, const uint8_t *bytes, size_t length)
+{
+    size_t done = 0;
+    while (done < length) {
+        ssize_t count = write(file, bytes + done, length - done);
+        if (count < 0 && errno != EINTR) {
+            return 0;
+        }
+        done += count > 0 ? (size_t)count : 0;
+    }
+    return 1;
+}
+
+/* EINVAL comes from a pipe or device that knows no fsync. */
+static int sync_file(int file)
+{
+    int result;
+    do {
+        result = fsync(file);
+    } while (result != 0 && errno == EINTR);
+    return result == 0 || errno == EINVAL;
+}
+
+/* The bytes of a torn record, where there are some, are fewer than those written over them. */
+static enum outcome keep_record(const struct test *test, const uint8_t *record)
+{
+    char why[256];
+    const char *error, *cut;
+    if (test->path == NULL || (write_file(test->file, record, CONFORMITY_RECORD_SIZE) &&
+                               sync_file(test->file))) {
         return UNDECIDED;
     }
-    if (kind == CONFORMITY_KIND_ENGINE) {
-        printf("engine %u: ", (unsigned)++test->engines);
+    error = strerror(errno);
+    cut = ftruncate(test->file, (off_t)test->used) == 0 ? "is" : "could not be";
+    snprintf(why, sizeof why, "line %lu is not kept: %s; the file %s cut back to whole records",
+             test->line_number, error, cut);
+    return trouble(test->path, why);
+}
+
+static enum outcome no_sheet(const char *path, uint32_t code)
+{
+    char why[256];
+    uint32_t number = conformity_refusal_number(code);
+    snprintf(why, sizeof why, "no sheet, left as it is: refused %u at record %u: %s",
+             (unsigned)number, (unsigned)conformity_refusal_record(code),
+             conformity_refusal_text(number));
+    return trouble(path, why);
+}
+
+/* A sheet does not stay one where the lines stand in it, or the messages are written to it. */
+static int is_standard_stream(const struct stat *file)
+{
+    struct stat stream;
+    int descriptor;
+    for (descriptor = STDIN_FILENO; descriptor <= STDERR_FILENO; descriptor++) {
+        if (fstat(descriptor, &stream) == 0 && stream.st_dev == file->st_dev &&
+            stream.st_ino == file->st_ino) {
+            return 1;
+        }
+    }
+    return 0;
+}
+
+static int lock_file(int file)
+{
+    struct flock lock = {0}; /* start and length 0: the whole file, however long it grows */
+    lock.l_type = F_WRLCK;
+    lock.l_whence = SEEK_SET;
+    return fcntl(file, F_SETLK, &lock) == 0;
+}
+
+/* Takes the sheet that the file holds and prints how it stands; an empty file is a new sheet. */
+static enum outcome resume(struct test *test)
+{
+    uint8_t bytes[CONFORMITY_SHEET_MAX + CONFORMITY_RECORD_SIZE] = {0}; /* all full: too long */
+    uint8_t report[CONFORMITY_REPORT_SIZE];
+    size_t length, torn;
+    uint32_t code;
+    if (!read_file(test->file, bytes, sizeof bytes, &length)) {
+        return trouble(test->path, strerror(errno));
+    }
+    torn = length % CONFORMITY_RECORD_SIZE;
+    if (torn == length && bytes[KIND] != CONFORMITY_KIND_POLLUTANT) {
+        torn = 0; /* these bytes do not begin a sheet: the library refuses them */
+    }
+    length -= torn;
+    if (length > 0 && (code = conformity_report(bytes, length, report, sizeof report)) != 0) {
+        return no_sheet(test->path, code);
+    }
+    if (lseek(test->file, (off_t)length, SEEK_SET) < 0) {
+        return trouble(test->path, strerror(errno));
+    }
+    if (torn > 0) {
+        printf("torn record of %u bytes at the end, cut by the next record\n", (unsigned)torn);
+    }
+    if (length == 0) {
+        return UNDECIDED;
+    }
+    memcpy(test->sheet, bytes, length);
+    test->used = length;
+    test->plan = test->sheet[PLAN];
+    printf("resumed after engine %u: ", (unsigned)engines_on(test));
+    return print_standing(test);
+}
+
+static enum outcome open_sheet(struct test *test, const char *path)
+{
+    struct stat status;
+    test->path = path;
+    test->file = open(path, O_RDWR | O_CREAT | O_NOCTTY, 0666);
+    if (test->file < 0 || fstat(test->file, &status) != 0) {
+        return trouble(path, strerror(errno));
+    }
+    if (!S_ISREG(status.st_mode)) {
+        return UNDECIDED; /* a pipe or device: reading from it might never end */
+    }
+    if (is_standard_stream(&status)) {
+        return trouble(path, "no sheet, left as it is: it is standard input, output or error");
+    }
+    if (!lock_file(test->file)) {
+        return trouble(path, errno == EACCES || errno == EAGAIN ? "another bench keeps this sheet"
+                                                                : strerror(errno));
+    }
+    return resume(test);
+}
+
+/* ---- The test ---- */
+
+/* The refusal is 0 for a line that is not understood. */
+static void pass_over(struct test *test, uint32_t refusal, const char *reason)
+{
+    if (test->passed_over == 0) {
+        test->first_passed_over = test->line_number;
+    }
+    test->passed_over++;
+    printf("line %lu: passed over: ", test->line_number);
+    if (refusal != 0) {
+        printf("refused %u: ", (unsigned)refusal);
+    }
+    puts(reason);
+}
+
+static enum outcome take_record(struct test *test, const uint8_t *record)
+{
+    uint32_t code = conformity_append(test->sheet, sizeof test->sheet, test->used, record,
+                                      CONFORMITY_RECORD_SIZE);
+    if (code != 0) {
+        uint32_t number = conformity_refusal_number(code);
+        pass_over(test, number, conformity_refusal_text(number));
+        return UNDECIDED;
+    }
+    if (keep_record(test, record) == TROUBLE) {
+        return TROUBLE;
+    }
+    test->used += CONFORMITY_RECORD_SIZE;
+    if (record[KIND] == CONFORMITY_KIND_POLLUTANT) {
+        return UNDECIDED;
+    }
+    if (record[KIND] == CONFORMITY_KIND_ENGINE) {
+        printf("engine %u: ", (unsigned)engines_on(test));
     } else {
         fputs("stop: ", stdout);
     }
     return print_standing(test);
 }
 
-static enum outcome take_line(struct test *test, char *line, unsigned long line_number)
+/* The fault is what was wrong with the line as it was read, or NULL. */
+static enum outcome take_line(struct test *test, char *line, const char *fault)
 {
-    uint8_t record[CONFORMITY_RECORD_SIZE];
+    uint8_t record[CONFORMITY_RECORD_SIZE] = {NO_RECORD};
     char *words[MOST_WORDS];
     size_t count = 0;
     char *word = strtok(line, BLANKS);
-    uint32_t code;
-    int kind;
     for (; word != NULL && count < MOST_WORDS; word = strtok(NULL, BLANKS)) {
         words[count++] = word;
     }
-    if (count == 0 || words[0][0] == '#') {
+    if (count == 0 ? fault == NULL : words[0][0] == '#') {
+        return UNDECIDED; /* a comment may be longer than other lines */
+    }
+    if (fault == NULL) {
+        fault = read_words(test, words, count, record);
+    }
+    if (fault != NULL) {
+        pass_over(test, 0, fault);
         return UNDECIDED;
     }
-    kind = read_words(test, words, count, record);
-    if (kind == NOT_UNDERSTOOD) {
-        printf("line %lu: not understood, passed over\n", line_number);
-    }
-    if (kind == NOT_UNDERSTOOD || kind == NO_RECORD) {
+    if (record[KIND] == NO_RECORD || is_limit_on(test, record)) {
         return UNDECIDED;
     }
-    code = conformity_append(test->sheet, sizeof test->sheet, test->used, record, sizeof record);
-    if (code != 0) {
-        uint32_t number = conformity_refusal_number(code);
-        printf("line %lu: refused %u: %s\n", line_number, (unsigned)number,
-               conformity_refusal_text(number));
-        return UNDECIDED;
+    return take_record(test, record);
+}
+
+/* ---- Standard input ---- */
+
+static int wait_for_input(void)
+{
+    struct pollfd standard_input = {STDIN_FILENO, POLLIN, 0};
+    return poll(&standard_input, 1, -1) >= 0 || errno == EINTR;
+}
+
+/* By read(2): stdio takes a read that is interrupted, or has to wait, for an error. */
+static void fill(struct input *input)
+{
+    ssize_t count;
+    do {
+        count = read(STDIN_FILENO, input->bytes, sizeof input->bytes);
+    } while (count < 0 && (errno == EINTR || (errno == EAGAIN && wait_for_input())));
+    input->error = count < 0 ? errno : 0;
+    input->ended = count <= 0;
+    input->count = count < 0 ? 0 : (size_t)count;
+    input->next = 0;
+}
+
+static int next_byte(struct input *input)
+{
+    if (input->next == input->count && !input->ended) {
+        fill(input);
     }
-    return take_record(test, record, kind);
+    return input->next < input->count ? input->bytes[input->next++] : EOF;
 }
 
 /*
- * Reads a line without its end; answers 0 when there are no more. A line that is too long, has a
- * zero byte or breaks off before its end becomes "?", which is not understood: the number that it
- * ends in may have lost digits.
+ * Reads a line without its end, in lower case; answers 0 when there are no more. A line that a
+ * failure of the input cuts off is not taken: the number that it ends in may have lost digits.
  */
-static int read_line(char *line, size_t size)
+static int read_line(struct input *input, char *line, size_t size, const char **fault)
 {
     size_t length = 0;
-    int whole = 1;
-    int c = getchar();
-    if (c == EOF) {
-        return 0;
-    }
-    for (; c != '\n' && c != EOF; c = getchar()) {
-        whole = whole && c != '\0' && length + 1 < size;
-        if (whole) {
-            line[length++] = (char)c;
+    int byte = next_byte(input);
+    int begun = byte != EOF;
+    *fault = NULL;
+    for (; byte != EOF && byte != '\n'; byte = next_byte(input)) {
+        if (*fault == NULL && byte == '\0') {
+            *fault = "the line has a zero byte";
+        }
+        if (*fault == NULL && length + 1 == size) {
+            *fault = "the line is too long";
+        }
+        if (*fault == NULL) {
+            line[length++] = (char)tolower(byte);
         }
     }
     line[length] = '\0';
-    if (!whole || c == EOF) {
-        memcpy(line, "?", sizeof "?");
-    }
-    return 1;
+    return begun && input->error == 0;
 }
 
 static enum outcome run(struct test *test)
 {
+    static struct input input; /* all zero: nothing read */
     char line[256];
-    unsigned long line_number = 0;
+    const char *fault;
     enum outcome outcome = UNDECIDED;
-    while (outcome == UNDECIDED && read_line(line, sizeof line)) {
-        outcome = take_line(test, line, ++line_number);
+    while (outcome == UNDECIDED && read_line(&input, line, sizeof line, &fault)) {
+        size_t mark = strlen(BYTE_ORDER_MARK);
+        int marked = ++test->line_number == 1 && strncmp(line, BYTE_ORDER_MARK, mark) == 0;
+        outcome = take_line(test, marked ? line + mark : line, fault);
     }
     if (outcome == UNDECIDED) {
-        printf("undecided after engine %u\n", (unsigned)test->engines);
+        printf("undecided after engine %u\n", (unsigned)engines_on(test));
     }
-    if (ferror(stdin) || fflush(stdout) != 0 || ferror(stdout)) {
-        return trouble("bench: standard input or output");
+    if (test->passed_over > 0) {
+        printf("lines passed over: %lu, the first was line %lu\n", test->passed_over,
+               test->first_passed_over);
     }
-    return outcome;
+    if (input.error != 0) {
+        return trouble("standard input", strerror(input.error));
+    }
+    return outcome == DECIDED && test->passed_over > 0 ? DECIDED_ON_LESS : outcome;
+}
+
+/* ---- The program ---- */
+
+/*
+ * The file of -o must not get the number of a standard stream that is closed: messages would be
+ * written to the sheet. /dev/null opened the other way round makes reading, or writing, fail.
+ */
+static int open_missing_streams(void)
+{
+    int descriptor;
+    for (descriptor = STDIN_FILENO; descriptor <= STDERR_FILENO; descriptor++) {
+        if (fcntl(descriptor, F_GETFD) < 0 &&
+            open("/dev/null", descriptor == STDIN_FILENO ? O_WRONLY : O_RDONLY) != descriptor) {
+            return 0;
+        }
+    }
+    return 1;
+}
+
+static enum outcome start(int argc, char **argv)
+{
+    static struct test test; /* all zero: an empty sheet */
+    enum outcome outcome = UNDECIDED;
+    if (!open_missing_streams()) {
+        return trouble("/dev/null", strerror(errno));
+    }
+    signal(SIGPIPE, SIG_IGN); /* what a pipe or a file does not take is to be told: */
+    signal(SIGXFSZ, SIG_IGN); /* it must not end the program */
+    setvbuf(stdout, NULL, _IOLBF, BUFSIZ); /* the lines are watched as the test goes on */
+    if (argc == 2 && strcmp(argv[1], "-h") == 0) {
+        fputs(HELP, stdout);
+        return HELPED;
+    }
+    if (argc != 1 && (argc != 3 || strcmp(argv[1], "-o") != 0)) {
+        return trouble("usage", "bench [-o FILE] < lines, or bench -h");
+    }
+    if (argc == 3) {
+        outcome = open_sheet(&test, argv[2]);
+    }
+    return outcome == UNDECIDED ? run(&test) : outcome;
 }
 
 int main(int argc, char **argv)
 {
-    static struct test test; /* all zero: an empty sheet */
-    enum outcome outcome;
-    if (argc != 1 && (argc != 3 || strcmp(argv[1], "-o") != 0)) {
-        fputs("usage: bench [-o FILE] < lines\n", stderr);
-        return TROUBLE;
+    enum outcome outcome = start(argc, argv);
+    /* Output that fails does not stop the test, but is told at its end. */
+    if (fflush(stdout) != 0 || ferror(stdout)) {
+        outcome = trouble("standard output", "not every line could be written");
     }
-    if (argc == 3 && (test.copy = fopen(argv[2], "wb")) == NULL) {
-        return trouble(argv[2]);
-    }
-    setvbuf(stdout, NULL, _IOLBF, BUFSIZ); /* the lines are watched as the test goes on */
-    outcome = run(&test);
-    if (test.copy != NULL && fclose(test.copy) != 0) {
-        return trouble(argv[2]);
-    }
-    return outcome;
+    return (int)outcome;
 }

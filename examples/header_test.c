@@ -268,6 +268,28 @@ static void refused_memory(void)
     CHECK(same(output, nothing_yet, sizeof nothing_yet) && output[20] == 0xa5);
 }
 
+/* Where a length is 0 the pointer may be null: the answers are those for any other pointer. */
+static void no_memory(void)
+{
+    uint8_t bytes[40];
+    uint8_t *pointers[2] = {NULL, bytes};
+    uint32_t refused_record = code_of(CONFORMITY_REFUSED_RECORD, 0);
+    uint32_t refused_buffer = code_of(CONFORMITY_REFUSED_BUFFER, 0);
+    size_t i;
+    conformity_pollutant_record(bytes, CONFORMITY_PARTICULATES, CONFORMITY_PLAN_ATTRIBUTES, 150, 0);
+    for (i = 0; i < 2; i++) {
+        uint8_t *none = pointers[i];
+        CHECK(conformity_append(none, 0, 0, none, 0) == refused_record);
+        CHECK(conformity_append(none, 0, 20, none, 0) == refused_record);
+        CHECK(conformity_append(none, 0, 0, bytes, 20) == refused_buffer);
+        CHECK(conformity_append(none, 0, SIZE_MAX, bytes, 20) == refused_buffer);
+        CHECK(conformity_append(bytes, 40, 20, none, 0) == refused_record);
+        CHECK(conformity_report(none, 0, none, 0) == code_of(CONFORMITY_REFUSED_OUTPUT, 0));
+        CHECK(conformity_report(bytes, 20, none, 0) == code_of(CONFORMITY_REFUSED_OUTPUT, 0));
+        CHECK(conformity_report(none, 0, bytes + 20, 20) == code_of(CONFORMITY_REFUSED_LENGTH, 0));
+    }
+}
+
 /* The longest sheet there is: four pollutants, 32 engines and a stop. */
 static void longest_sheet(void)
 {
@@ -362,6 +384,7 @@ int main(void)
     codes();
     refused_records();
     refused_memory();
+    no_memory();
     longest_sheet();
     verdicts();
     referral();

@@ -39,11 +39,12 @@
  * After four such engines this prints "pass at 4".
  *
  * POINTERS. Each pointer is followed by its length in bytes and must be valid
- * for that many bytes: readable, and writable where it is not const. No pointer
- * may be null; where a length is 0, any non-null pointer will do. The record
- * must not overlap the buffer, nor the output the sheet. Nothing else may write
- * to these bytes, or read those that the call writes, until it returns. Within
- * that, every input has a defined answer: any bytes, any lengths, any `used`.
+ * for that many bytes: readable, and writable where it is not const. Where the
+ * length is 0 any pointer will do, also a null one, as an empty C++ vector's may
+ * be. The record must not overlap the buffer, nor the output the sheet. Nothing
+ * else may write to these bytes, or read those that the call writes, until it
+ * returns. Within that, every input has a defined answer: any bytes, any
+ * lengths, any `used`.
  *
  * THREADS. The library has no state, allocates nothing and keeps no pointer
  * past a call. Calls on separate memory may run at the same time.
