@@ -243,6 +243,8 @@ static void judge(const uint8_t *sheet, const struct series *series, uint8_t *ou
     struct standing standings[POLLUTANTS] = {0};
     struct gross gross = {0};
     for (int i = 0; i < POLLUTANTS; i++) {
+        if (series->limits[i] == 0)
+            continue;
         standings[i].limit = series->plan == 3 ? 0 : log(series->limits[i]);
         standings[i].deviation = series->deviations[i] / 1e6;
     }

@@ -2,7 +2,7 @@
 //! at 3 to 7 engines.
 
 use random::Random;
-use second::{judge, last_row, Ground, Verdict, CORRECT, RECORD};
+use second::{judge, Document, Document01, Ground, Verdict, RECORD};
 
 /// One pollutant and what was measured of it.
 struct Series {
@@ -51,7 +51,7 @@ fn decided_sheet(plan: u8, random: &mut Random) -> Option<Vec<u8>> {
     for n in 1..=7 {
         series.measure(plan, random);
         let sheet = sheet(plan, std::slice::from_ref(&series));
-        let judgement = judge::<CORRECT>(&sheet).expect("an accepted sheet");
+        let judgement = judge(&Document01, &sheet).expect("an accepted sheet");
         if n >= 3 && judgement.ground == Ground::Row {
             return Some(sheet);
         }
@@ -74,8 +74,8 @@ impl Series {
         (0..50).any(|_| {
             self.measure(plan, random);
             let sheet = sheet(plan, std::slice::from_ref(self));
-            let judgement = judge::<CORRECT>(&sheet).expect("an accepted sheet");
-            let last = self.measurements.len() == last_row::<CORRECT>(plan);
+            let judgement = judge(&Document01, &sheet).expect("an accepted sheet");
+            let last = self.measurements.len() == Document01.last_row(plan);
             let kept = last || judgement.verdict == Verdict::Another;
             if !kept {
                 self.measurements.pop();

@@ -8,7 +8,12 @@ fn main() {
     );
     seal::link(
         "probe",
-        &["probe_logarithm", "probe_evidence", "probe_lines"],
+        &[
+            "probe_logarithm",
+            "probe_evidence",
+            "probe_lines",
+            "probe_step",
+        ],
         "compare_probe",
     );
 }

@@ -4,7 +4,7 @@
 use bench::sheets;
 use bench::timing::{against, time};
 use entries::{conformity_append, conformity_report};
-use second::{append, last_row, report, Refusal, CORRECT, RECORD, REPORT};
+use second::{append, report, Document, Document01, Refusal, RECORD, REPORT};
 use std::ffi::c_void;
 use std::hint::black_box;
 
@@ -44,14 +44,14 @@ fn library_append(buffer: &mut [u8], used: usize, record: &[u8]) -> u32 {
 
 #[inline(never)]
 fn second_report(sheet: &[u8], output: &mut [u8; REPORT]) -> u32 {
-    report::<CORRECT>(sheet, output)
+    report(&Document01, sheet, output)
         .err()
         .map_or(0, Refusal::code)
 }
 
 #[inline(never)]
 fn second_append(buffer: &mut [u8], used: usize, record: &[u8]) -> u32 {
-    append::<CORRECT>(buffer, used, record)
+    append(&Document01, buffer, used, record)
         .err()
         .map_or(0, Refusal::code)
 }
@@ -99,7 +99,7 @@ fn reporting(report: Report, sheets: &[Vec<u8>]) -> impl FnMut() + '_ {
 fn print_reports() {
     println!("report, time of the library by that of the second implementation, and of doubles:");
     for plan in 1..=4 {
-        let sheets = sheets::full(plan, last_row::<CORRECT>(plan), SHEETS);
+        let sheets = sheets::full(plan, Document01.last_row(plan), SHEETS);
         print_report(&format!("plan {plan}, full sheets"), &sheets, true);
     }
     for plan in 1..=4 {
@@ -188,7 +188,7 @@ fn call_all(report: Report, append: Append, sheets: &mut [Vec<u8>]) {
 }
 
 fn all_sheets() -> Vec<Vec<u8>> {
-    let full = (1..=4).flat_map(|plan| sheets::full(plan, last_row::<CORRECT>(plan), SHEETS));
+    let full = (1..=4).flat_map(|plan| sheets::full(plan, Document01.last_row(plan), SHEETS));
     let typical = (1..=4).flat_map(|plan| sheets::typical(plan, SHEETS));
     full.chain(typical)
         .chain([sheets::refused_at_the_end()])

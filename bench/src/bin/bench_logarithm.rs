@@ -4,7 +4,7 @@
 use bench::timing::{against, time};
 use entries::probe_logarithm;
 use random::Random;
-use second::{logarithm, CORRECT};
+use second::{Document, Document01};
 use std::hint::black_box;
 
 extern "C" {
@@ -20,7 +20,7 @@ fn library(m: u32) -> u32 {
 
 #[inline(never)]
 fn second(m: u32) -> u32 {
-    logarithm::<CORRECT>(m)
+    Document01.g(m) as u32
 }
 
 fn main() {

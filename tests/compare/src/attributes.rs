@@ -1,42 +1,43 @@
 //! Plan 3 as directed sheets: every count of engines over the limit that a series can be open
 //! with at every row, and both ways on from it.
 
-use crate::draft::{Draft, Pollutant};
-use second::{last_row, CORRECT};
+use crate::draft::Pollutant;
+use crate::paper::{Chosen, Paper, Single};
+use second::Decision;
 
 const LIMIT: u32 = 150;
 
-pub fn sheets() -> Vec<Vec<u8>> {
-    let pollutant = Pollutant {
-        number: 4,
-        limit: LIMIT,
-        deviation: 0,
-    };
+pub fn sheets(paper: &Paper) -> Vec<Chosen> {
     let mut sheets = Vec::new();
-    let mut open = vec![Draft::new(3, vec![pollutant])];
-    for _ in 0..last_row::<CORRECT>(3) {
-        let next: Vec<Draft> = open.iter().flat_map(both_ways).collect();
-        sheets.extend(next.iter().map(Draft::bytes));
-        open = next.into_iter().filter(Draft::is_undecided).collect();
+    let mut open = vec![Single {
+        plan: 3,
+        pollutant: Pollutant {
+            number: 4,
+            limit: LIMIT,
+            deviation: 0,
+        },
+        measurements: Vec::new(),
+    }];
+    for _ in 0..paper.last_row(3) {
+        let next: Vec<Single> = open.iter().flat_map(both_ways).collect();
+        sheets.extend(next.iter().map(|series| paper.chosen(series)));
+        let is_open = |series: &Single| paper.outcome(series).0 == Decision::Open;
+        open = next.into_iter().filter(is_open).collect();
         open.sort_by_key(over);
-        open.dedup_by_key(|draft| over(draft));
+        open.dedup_by_key(|series| over(series));
     }
     sheets
 }
 
 /// One more engine at the limit, or just over it.
-fn both_ways(draft: &Draft) -> [Draft; 2] {
+fn both_ways(series: &Single) -> [Single; 2] {
     [LIMIT, LIMIT + 1].map(|x| {
-        let mut longer = draft.clone();
-        longer.test([0, 0, 0, x], 0);
+        let mut longer = series.clone();
+        longer.measurements.push(x);
         longer
     })
 }
 
-fn over(draft: &Draft) -> usize {
-    draft
-        .engines
-        .iter()
-        .filter(|engine| engine.measurements[3] > LIMIT)
-        .count()
+fn over(series: &Single) -> usize {
+    series.measurements.iter().filter(|&&x| x > LIMIT).count()
 }

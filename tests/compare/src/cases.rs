@@ -4,37 +4,39 @@
 use crate::memory::{Edge, Lender};
 use crate::tally::hexadecimal;
 use random::Random;
-use second::{append, report, Refusal, RECORD, REPORT};
+use second::{append, report, Document, Refusal, RECORD, REPORT};
 use std::fmt;
 use std::ops::ControlFlow;
 
-pub type Report = fn(&[u8], &mut [u8]) -> u32;
-pub type Append = fn(&mut [u8], usize, &[u8]) -> u32;
-
 /// Report and append as the bench's control program calls them, of the delivered library or of
-/// a variant of the second implementation.
-#[derive(Clone, Copy)]
-pub struct Operations {
-    pub report: Report,
-    pub append: Append,
+/// the second implementation.
+pub trait Operations {
+    fn report(&self, sheet: &[u8], output: &mut [u8]) -> u32;
+    fn append(&self, buffer: &mut [u8], used: usize, record: &[u8]) -> u32;
 }
 
-impl Operations {
-    pub const fn second<const VARIANT: u8>() -> Self {
-        Operations {
-            report: Self::second_report::<VARIANT>(),
-            append: |buffer, used, record| code(append::<VARIANT>(buffer, used, record)),
-        }
+/// The second implementation by some document.
+pub struct Second<'a, D: ?Sized>(pub &'a D);
+
+impl<D: Document + ?Sized> Operations for Second<'_, D> {
+    fn report(&self, sheet: &[u8], output: &mut [u8]) -> u32 {
+        code(report(self.0, sheet, output))
     }
 
-    pub const fn second_report<const VARIANT: u8>() -> Report {
-        |sheet, output| code(report::<VARIANT>(sheet, output))
+    fn append(&self, buffer: &mut [u8], used: usize, record: &[u8]) -> u32 {
+        code(append(self.0, buffer, used, record))
     }
 }
 
 /// "Both return number 0 and record 0 on success."
 fn code(result: Result<(), Refusal>) -> u32 {
     result.err().map_or(0, Refusal::code)
+}
+
+/// The report of a sheet, and what the call returns.
+pub fn reported(operations: &dyn Operations, sheet: &[u8]) -> (u32, [u8; REPORT]) {
+    let mut output = [UNWRITTEN; REPORT];
+    (operations.report(sheet, &mut output), output)
 }
 
 /// One call with all it is lent.
@@ -91,15 +93,17 @@ impl fmt::Display for Case<'_> {
 }
 
 impl Case<'_> {
-    pub fn run(&self, operations: &Operations, lender: &mut impl Lender, edge: Edge) -> Answer {
+    pub fn run(&self, operations: &dyn Operations, lender: &mut impl Lender, edge: Edge) -> Answer {
         let (code, bytes) = match self {
-            Case::Report { sheet, output } => lender.lend(sheet, output, edge, operations.report),
+            Case::Report { sheet, output } => lender.lend(sheet, output, edge, |sheet, output| {
+                operations.report(sheet, output)
+            }),
             Case::Append {
                 buffer,
                 used,
                 record,
             } => lender.lend(record, buffer, edge, |record, buffer| {
-                (operations.append)(buffer, *used, record)
+                operations.append(buffer, *used, record)
             }),
         };
         Answer { code, bytes }
@@ -158,6 +162,24 @@ fn visit_append_grid(sheet: &[u8], visit: &mut Visit) -> ControlFlow<()> {
         for length in buffer_lengths(sheet.len()) {
             for used in used_lengths(sheet.len()) {
                 visit(&append_case(sheet, length, used, record.bytes(sheet)))?;
+            }
+        }
+    }
+    ControlFlow::Continue(())
+}
+
+/// Report and append with every part that is lent empty or not.
+pub fn visit_empty(visit: &mut Visit) -> ControlFlow<()> {
+    let sheet = [1, 1, 3, 0, 150, 0, 0, 0, 0, 0, 0, 0, 0, 0, 0, 0, 0, 0, 0, 0];
+    for sheet in [&[][..], &sheet] {
+        for length in [0, REPORT] {
+            visit(&report_case(sheet, length))?;
+        }
+    }
+    for length in [0, 2 * RECORD] {
+        for record in [&[][..], &sheet] {
+            for used in [0, 1, RECORD, RECORD + 1, usize::MAX] {
+                visit(&append_case(&sheet, length, used, record.to_vec()))?;
             }
         }
     }

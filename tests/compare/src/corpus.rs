@@ -1,14 +1,16 @@
-//! The sheets that every suite goes through: pairs on a line, plan 4's directed sheets, damaged
-//! sheets for every refusal, the longest sheets, and random ones.
+//! The sheets that every suite goes through: pairs on a line and series exact to a unit of W, both
+//! chosen by the paper, the directed sheets of plans 3 and 4, damaged sheets for every refusal,
+//! the longest sheets, and random ones.
 
 use crate::attributes;
 use crate::draft::{random_draft, Draft};
-use crate::exact;
-use crate::pairs::{self, Cell, Pair};
+use crate::exact::{self, Stand};
+use crate::pairs::{self, Pair};
+use crate::paper::{Cell, Chosen, Paper};
 use crate::refusals::WAYS;
 use crate::service;
 use random::Random;
-use second::{check, last_row, CORRECT, LONGEST_SHEET, RECORD};
+use second::{check, Document, Document01, LONGEST_SHEET, RECORD};
 use std::fmt;
 use std::ops::ControlFlow;
 
@@ -16,8 +18,8 @@ use std::ops::ControlFlow;
 #[derive(Clone, Copy)]
 pub struct Scale {
     pub pairs_in_cell: usize,
-    /// Whether sharp pairs and exact series are looked for, which takes some seconds.
-    pub closest: bool,
+    /// Whether series exact to a unit of W are looked for.
+    pub exact: bool,
     pub rounds_of_damage: usize,
     /// One of so many of the longest sheets and of plan 4's directed ones.
     pub one_directed_in: usize,
@@ -27,7 +29,7 @@ pub struct Scale {
 
 pub const FULL: Scale = Scale {
     pairs_in_cell: 24,
-    closest: true,
+    exact: true,
     rounds_of_damage: 12,
     one_directed_in: 1,
     random_sheets: 400_000,
@@ -37,7 +39,7 @@ pub const FULL: Scale = Scale {
 /// A part, for a run under valgrind.
 pub const QUICK: Scale = Scale {
     pairs_in_cell: 1,
-    closest: false,
+    exact: false,
     rounds_of_damage: 4,
     one_directed_in: 16,
     random_sheets: 1_500,
@@ -48,7 +50,7 @@ pub const QUICK: Scale = Scale {
 #[derive(Clone, Copy)]
 pub enum Origin {
     Pair(Cell),
-    Exact(Cell),
+    Exact(Cell, Stand),
     Attributes,
     InService,
     Damage(usize),
@@ -63,10 +65,10 @@ impl fmt::Display for Origin {
             Origin::Pair(Cell { plan, row, line }) => {
                 write!(formatter, "line pair, plan {plan}, row {row}, {line:?}")
             }
-            Origin::Exact(Cell { plan, row, line }) => {
+            Origin::Exact(Cell { plan, row, line }, stand) => {
                 write!(
                     formatter,
-                    "series on a line, plan {plan}, row {row}, {line:?}"
+                    "series exact to a unit of W, plan {plan}, row {row}, {line:?}, {stand:?}"
                 )
             }
             Origin::Attributes => write!(formatter, "directed sheet of plan 3"),
@@ -88,8 +90,10 @@ impl fmt::Display for Origin {
 }
 
 pub struct Corpus {
+    pub paper: Paper,
     pub pairs: Vec<Pair>,
-    pub exact: Vec<(Cell, Vec<u8>)>,
+    pub exact: Vec<(Cell, Stand, Chosen)>,
+    attributes: Vec<Chosen>,
     directed: Vec<(Origin, Vec<u8>)>,
     random_sheets: usize,
 }
@@ -97,34 +101,38 @@ pub struct Corpus {
 impl Corpus {
     pub fn new(scale: Scale) -> Self {
         let mut random = Random::new(0xC0FFEE);
+        let paper = Paper::read();
         let mut pairs = Vec::new();
         let mut exact = Vec::new();
-        for cell in pairs::cells() {
-            let mut found = pairs::pairs(cell, scale.pairs_in_cell, &mut random);
-            if scale.closest && cell.plan != 3 && !found.iter().any(Pair::is_sharp) {
-                found.extend(pairs::sharp_pair(cell, &mut random));
-            }
-            pairs.extend(found);
-            if scale.closest && matches!(cell.plan, 2 | 4) {
-                exact.extend(exact::series(cell, &mut random).map(|sheet| (cell, sheet)));
+        for cell in paper.cells() {
+            let count = scale.pairs_in_cell;
+            pairs.extend(pairs::pairs(&paper, cell, count, &mut random));
+            if scale.exact && matches!(cell.plan, 2 | 4) {
+                exact.extend(exact_series(&paper, cell, &mut random));
             }
         }
-        let mut directed = Vec::new();
-        directed.extend(labelled(Origin::Attributes, attributes::sheets()));
-        let in_service = labelled(Origin::InService, service::sheets());
-        directed.extend(in_service.step_by(scale.one_directed_in));
-        for _ in 0..scale.rounds_of_damage {
-            directed.extend(damaged_sheets(&mut random));
-            let longest = labelled(Origin::Longest, longest_sheets(&mut random));
-            directed.extend(longest.step_by(scale.one_directed_in));
-        }
-        directed.extend(twice_damaged_sheets(&mut random));
         Corpus {
+            attributes: attributes::sheets(&paper),
+            directed: directed_sheets(scale, &mut random),
+            random_sheets: scale.random_sheets,
+            paper,
             pairs,
             exact,
-            directed,
-            random_sheets: scale.random_sheets,
         }
+    }
+
+    /// The sheets that the paper chose, and what it asks for.
+    pub fn chosen(&self) -> impl Iterator<Item = (Origin, &Chosen)> {
+        let pairs = self.pairs.iter().flat_map(|pair| {
+            let sheets = pair.sheets.iter();
+            sheets.map(|chosen| (Origin::Pair(pair.cell), chosen))
+        });
+        let exact = self.exact.iter();
+        let exact = exact.map(|(cell, stand, chosen)| (Origin::Exact(*cell, *stand), chosen));
+        let attributes = self.attributes.iter();
+        pairs
+            .chain(exact)
+            .chain(attributes.map(|chosen| (Origin::Attributes, chosen)))
     }
 
     /// Shows every sheet with its origin.
@@ -132,13 +140,8 @@ impl Corpus {
         &self,
         visit: &mut dyn FnMut(Origin, &[u8]) -> ControlFlow<()>,
     ) -> ControlFlow<()> {
-        for pair in &self.pairs {
-            for sheet in &pair.sheets {
-                visit(Origin::Pair(pair.cell), sheet)?;
-            }
-        }
-        for (cell, sheet) in &self.exact {
-            visit(Origin::Exact(*cell), sheet)?;
+        for (origin, chosen) in self.chosen() {
+            visit(origin, &chosen.sheet)?;
         }
         for (origin, sheet) in &self.directed {
             visit(*origin, sheet)?;
@@ -149,6 +152,31 @@ impl Corpus {
         }
         ControlFlow::Continue(())
     }
+}
+
+/// For each pollutant a series on each side of the line, and one on the line, as far as they are
+/// found.
+fn exact_series(paper: &Paper, cell: Cell, random: &mut Random) -> Vec<(Cell, Stand, Chosen)> {
+    let beside = (1..=4).flat_map(|number| [(Stand::Deciding, number), (Stand::Beyond, number)]);
+    beside
+        .chain([(Stand::OnLine, 1)])
+        .filter_map(|(stand, number)| {
+            let chosen = exact::series(paper, cell, stand, number, random)?;
+            Some((cell, stand, chosen))
+        })
+        .collect()
+}
+
+fn directed_sheets(scale: Scale, random: &mut Random) -> Vec<(Origin, Vec<u8>)> {
+    let in_service = labelled(Origin::InService, service::sheets());
+    let mut directed: Vec<_> = in_service.step_by(scale.one_directed_in).collect();
+    for _ in 0..scale.rounds_of_damage {
+        directed.extend(damaged_sheets(random));
+        let longest = labelled(Origin::Longest, longest_sheets(random));
+        directed.extend(longest.step_by(scale.one_directed_in));
+    }
+    directed.extend(twice_damaged_sheets(random));
+    directed
 }
 
 fn labelled(origin: Origin, sheets: Vec<Vec<u8>>) -> impl Iterator<Item = (Origin, Vec<u8>)> {
@@ -194,7 +222,7 @@ fn accepted_sheet(plan: u8, random: &mut Random) -> Vec<u8> {
     loop {
         let draft = random_draft(random);
         let sheet = draft.bytes();
-        if draft.plan == plan && check::<CORRECT>(&sheet).is_ok() {
+        if draft.plan == plan && check(&Document01, &sheet).is_ok() {
             return sheet;
         }
     }
@@ -219,10 +247,10 @@ fn longest_draft(random: &mut Random) -> Draft {
         if draft.plan > 2 || draft.pollutants.len() < 4 || draft.engines.is_empty() {
             continue;
         }
-        while draft.engines.len() < last_row::<CORRECT>(draft.plan) {
+        while draft.engines.len() < Document01.last_row(draft.plan) {
             draft.engines.push(random.pick(&draft.engines));
         }
-        draft.engines.truncate(last_row::<CORRECT>(draft.plan));
+        draft.engines.truncate(Document01.last_row(draft.plan));
         draft.stopped = true;
         return draft;
     }

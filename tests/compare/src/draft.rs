@@ -1,7 +1,7 @@
 //! A sheet in the making, as document 01's records describe it.
 
 use random::Random;
-use second::{judge, last_row, Judgement, Verdict, CORRECT, RECORD};
+use second::{judge, Document, Document01, Judgement, Verdict, RECORD};
 
 pub const LARGEST: u32 = 9_999_999;
 
@@ -79,7 +79,7 @@ impl Draft {
 
     /// What document 01 answers, for a draft that is an accepted sheet.
     pub fn judged(&self) -> Judgement {
-        judge::<CORRECT>(&self.bytes()).expect("an accepted sheet")
+        judge(&Document01, &self.bytes()).expect("an accepted sheet")
     }
 
     pub fn is_undecided(&self) -> bool {
@@ -119,7 +119,7 @@ pub fn random_draft(random: &mut Random) -> Draft {
         .iter()
         .map(|_| random.pick(&SPREADS))
         .collect();
-    let count = random_count(random, last_row::<CORRECT>(plan));
+    let count = random_count(random, Document01.last_row(plan));
     let kept_open = random.one_in(4);
     for _ in 0..count {
         let tries = if kept_open { 6 } else { 1 };
@@ -135,7 +135,7 @@ fn test_one(random: &mut Random, draft: &mut Draft, spreads: &[Spread], tries: u
         let measurements = random_measurements(random, draft, spreads);
         let cause = random_cause(random);
         draft.test(measurements, cause);
-        let fits = draft.engines.len() <= last_row::<CORRECT>(draft.plan);
+        let fits = draft.engines.len() <= Document01.last_row(draft.plan);
         if left == 0 || !fits || draft.is_undecided() {
             return;
         }

@@ -1,79 +1,99 @@
-//! Series that stand exactly on a line of plans 2 and 4: P = A x root of W, or P = B x root of W,
-//! with W above zero. Only they tell "at most" from "less than" there.
+//! Series of plans 2 and 4 whose W is exact to the unit. They stand on a line, P = c x root of W
+//! with W above zero, which alone tells "at most" from "less than" there; or their W is the last
+//! whole number that decides, or one unit beyond it, which tells W from W plus or minus one.
 //!
-//! With the number c in hundred-thousandths in lowest terms as p / q, the line asks for
-//! D = p k and root of W = q k for some k, so the d_j have the sum p k and n times the sum of
-//! their squares is (p k)^2 + (q k)^2. All but three d_j are chosen at random, and the last three
-//! solved for. At n = 3 there is no such series: W is then twice a number x^2 + xy + y^2, in which
-//! 2 has an even power, so that in W it has an odd one, as in no square.
+//! The d_j have the sum D, and n times the sum of their squares is W + D^2. All but three of them
+//! are chosen at random, and the last three solved for. On the line, with c in lowest terms as
+//! p / q, D = p k and the root of W is q k for some k. At n = 3 there is no such series: W is then
+//! twice a number x^2 + xy + y^2, in which 2 has an even power, so that in W it has an odd one, as
+//! in no square. In plan 4 they are looked for and not asked for: the measurements stay under 1.5
+//! times the limit, and the least k that n allows often needs them further apart.
+//!
+//! Beside the line no cell is out of reach: a series of each pollutant is found on both sides in
+//! every row, and the comparison fails where one is not.
 
-use crate::draft::{Draft, Pollutant, LARGEST};
-use crate::pairs::{Cell, Line};
+use crate::draft::{Pollutant, LARGEST};
+use crate::paper::{Cell, Chosen, Line, Paper, Single};
 use random::Random;
-use second::{fail_number, logarithm, pass_number, Verdict, CORRECT};
+use second::{Decision, Document, Document01};
 
 /// How many sets of d_j are tried for one series.
-const ATTEMPTS: usize = 300;
+const ATTEMPTS: usize = 3000;
 /// How many orders of one set are tried for one that stays undecided until the last.
 const ORDERS: usize = 200;
 /// From here on g takes every value, since its steps are below 1.
 const DENSE: u32 = 100_000;
+/// The g about which the measurements lie, in the middle of where it takes every value.
+const CENTRE: f64 = 1_300_000.0;
 
-/// A series that stands exactly on the cell's line, if one is found.
-pub fn series(cell: Cell, random: &mut Random) -> Option<Vec<u8>> {
-    let target = Target::new(cell, random)?;
+/// Where a series stands by its W.
+#[derive(Clone, Copy, Debug, PartialEq, Eq)]
+pub enum Stand {
+    /// P^2 = c^2 W.
+    OnLine,
+    /// Of the whole numbers that decide, the one next to the line.
+    Deciding,
+    /// One unit of W beyond it.
+    Beyond,
+}
+
+/// A series of a pollutant that stands so by the cell's line, if one is found.
+pub fn series(
+    paper: &Paper,
+    cell: Cell,
+    stand: Stand,
+    number: u8,
+    random: &mut Random,
+) -> Option<Chosen> {
+    let (c, n) = (paper.number(cell) as i64, cell.row as i64);
+    let skewed = cell.plan == 4 && cell.line == Line::Last;
+    let widest = widest_spread(cell.plan, c, skewed);
     (0..ATTEMPTS).find_map(|_| {
-        let differences = target.differences(random)?;
-        target.sheet(cell, differences, random)
+        let target = match stand {
+            Stand::OnLine if n == 3 => None,
+            Stand::OnLine => on_line(c, n, widest, random),
+            Stand::Deciding | Stand::Beyond => beside_line(cell, c, stand, widest, random),
+        };
+        let target = target?;
+        let differences = target.differences(skewed, random)?;
+        let pollutant = Pollutant {
+            number,
+            limit: target.limit(),
+            deviation: 0,
+        };
+        let series = single(cell.plan, pollutant, differences)?;
+        in_order(paper, cell, stand, series, random)
     })
 }
 
-/// What the d_j have to add up to.
+/// What n numbers d_j have to add up to.
 struct Target {
     n: i64,
     sum: i64,
     squares: i64,
     mean: f64,
     spread: f64,
-    skewed: bool,
 }
 
 impl Target {
-    fn new(cell: Cell, random: &mut Random) -> Option<Self> {
-        let number = match cell.line {
-            Line::Fail => fail_number::<CORRECT>(cell.plan, cell.row),
-            Line::Pass | Line::Last => pass_number::<CORRECT>(cell.plan, cell.row),
-        };
-        let divisor = greatest_common_divisor(number.abs(), 100_000);
-        let (p, q, n) = (number / divisor, 100_000 / divisor, cell.row as i64);
-        let skewed = cell.plan == 4 && cell.line == Line::Last;
-        let widest = widest_spread(cell.plan, number, skewed) * n as f64;
-        let start = 1 + random.below((widest / q as f64 / 2.0) as usize + 1) as i64;
-        (start..start + 4 * n).find_map(|k| {
-            let (sum, root) = (p * k, q * k);
-            let squares = sum * sum + root * root;
-            let fits = squares % n == 0 && (squares / n - sum) % 2 == 0;
-            (fits && root as f64 <= widest).then(|| Target {
-                n,
-                sum,
-                squares: squares / n,
-                mean: sum as f64 / n as f64,
-                spread: root as f64 / n as f64,
-                skewed,
-            })
+    /// With D and W, if some whole numbers have them: n divides W + D^2, and the sum of the
+    /// squares is even or odd as the sum is.
+    fn new(n: i64, sum: i64, w: i64) -> Option<Self> {
+        let squares = (w + sum * sum) / n;
+        let fits = (w + sum * sum) % n == 0 && (squares - sum) % 2 == 0;
+        fits.then(|| Target {
+            n,
+            sum,
+            squares,
+            mean: sum as f64 / n as f64,
+            spread: (w as f64).sqrt() / n as f64,
         })
     }
 
-    fn differences(&self, random: &mut Random) -> Option<Vec<i64>> {
+    fn differences(&self, skewed: bool, random: &mut Random) -> Option<Vec<i64>> {
+        let offset = if skewed { offset_skewed } else { offset_even };
         let mut differences: Vec<i64> = (3..self.n)
-            .map(|_| {
-                let offset = if self.skewed {
-                    skewed(random)
-                } else {
-                    even(random)
-                };
-                (self.mean + self.spread * offset).round() as i64
-            })
+            .map(|_| (self.mean + self.spread * offset(random)).round() as i64)
             .collect();
         let sum = self.sum - differences.iter().sum::<i64>();
         let squares = self.squares - differences.iter().map(|d| d * d).sum::<i64>();
@@ -81,44 +101,92 @@ impl Target {
         Some(differences)
     }
 
-    /// The series in an order that leaves it undecided until its last engine.
-    fn sheet(&self, cell: Cell, differences: Vec<i64>, random: &mut Random) -> Option<Vec<u8>> {
-        let pollutant = Pollutant {
-            number: 1,
-            limit: self.limit(),
-            deviation: 0,
-        };
-        let measured = |d: i64| measurement(cell.plan, pollutant.limit, d);
-        let mut measurements: Vec<u32> = differences
-            .into_iter()
-            .map(measured)
-            .collect::<Option<_>>()?;
-        (0..ORDERS).find_map(|_| {
-            random.shuffle(&mut measurements);
-            let mut draft = Draft::new(cell.plan, vec![pollutant]);
-            for &x in &measurements {
-                draft.test([x, 0, 0, 0], 0);
-            }
-            let judgement = draft.judged();
-            let decided = judgement.verdict != Verdict::Another;
-            (decided && usize::from(judgement.engine) == cell.row).then(|| draft.bytes())
-        })
-    }
-
     /// A limit that puts the measurements where g takes every value.
     fn limit(&self) -> u32 {
-        let octaves = (1_300_000.0 - self.mean) / 65_536.0;
+        let octaves = (CENTRE - self.mean) / 65_536.0;
         (octaves.exp2() as u32).clamp(1, LARGEST)
     }
 }
 
+/// D = p k and W = (q k)^2.
+fn on_line(c: i64, n: i64, widest: f64, random: &mut Random) -> Option<Target> {
+    let divisor = greatest_common_divisor(c.abs(), 100_000);
+    let (p, q) = (c / divisor, 100_000 / divisor);
+    let most = (widest * n as f64 / q as f64) as i64;
+    let start = 1 + random.below(most as usize / 2 + 1) as i64;
+    (start..=most.min(start + 4 * n)).find_map(|k| Target::new(n, p * k, q * q * k * k))
+}
+
+/// A random D, and the W that stands beside the line for it.
+fn beside_line(
+    cell: Cell,
+    c: i64,
+    stand: Stand,
+    widest: f64,
+    random: &mut Random,
+) -> Option<Target> {
+    let n = cell.row as i64;
+    let spread = f64::from(random.magnitude(500, widest as u32));
+    let start = (c as f64 / 100_000.0 * spread * n as f64).round() as i64;
+    (start..start + 4 * n).find_map(|sum| Target::new(n, sum, w_beside(cell.line, c, sum, stand)))
+}
+
+/// With c below 0, and on a fail line, P^2 has to be at least c^2 W: the last W that decides is
+/// P^2 / c^2 rounded down. In plan 4's last row P^2 has to be at most c^2 W: it is rounded up.
+fn w_beside(line: Line, c: i64, sum: i64, stand: Stand) -> i64 {
+    let p = 100_000 * i128::from(sum);
+    let (p2, c2) = (p * p, i128::from(c) * i128::from(c));
+    let beyond = i64::from(stand == Stand::Beyond);
+    if line != Line::Fail && c >= 0 {
+        ((p2 + c2 - 1) / c2) as i64 - beyond
+    } else {
+        (p2 / c2) as i64 + beyond
+    }
+}
+
+/// The measurements that have these d_j; none if one of them is out of reach.
+fn single(plan: u8, pollutant: Pollutant, differences: Vec<i64>) -> Option<Single> {
+    let measured = |d| measurement(plan, pollutant.limit, d);
+    let measurements: Option<Vec<u32>> = differences.into_iter().map(measured).collect();
+    Some(Single {
+        plan,
+        pollutant,
+        measurements: measurements?,
+    })
+}
+
+/// The series in an order that leaves it undecided until its last engine.
+fn in_order(
+    paper: &Paper,
+    cell: Cell,
+    stand: Stand,
+    mut series: Single,
+    random: &mut Random,
+) -> Option<Chosen> {
+    let wanted = (decision(cell.line, stand), cell.row);
+    (0..ORDERS).find_map(|_| {
+        random.shuffle(&mut series.measurements);
+        (paper.outcome(&series) == wanted).then(|| paper.chosen(&series))
+    })
+}
+
+/// What the row says of a series that stands so.
+fn decision(line: Line, stand: Stand) -> Decision {
+    match (line, stand) {
+        (Line::Last, Stand::Beyond) => Decision::Fail,
+        (_, Stand::Beyond) => Decision::Open,
+        (Line::Fail, _) => Decision::Fail,
+        (Line::Pass | Line::Last, _) => Decision::Pass,
+    }
+}
+
 /// Offsets from the mean, in units of the spread.
-fn even(random: &mut Random) -> f64 {
+fn offset_even(random: &mut Random) -> f64 {
     random.fraction() * 3.2 - 1.6
 }
 
 /// Many a little above the mean and few far below it.
-fn skewed(random: &mut Random) -> f64 {
+fn offset_skewed(random: &mut Random) -> f64 {
     if random.fraction() < 0.27 {
         random.fraction() * -0.6 - 1.4
     } else {
@@ -126,30 +194,31 @@ fn skewed(random: &mut Random) -> f64 {
     }
 }
 
-/// In service the measurements stay at or under 1.5 times the limit, 0.58 octaves above it.
-fn widest_spread(plan: u8, number: i64, skewed: bool) -> f64 {
-    let ratio = number as f64 / 100_000.0;
+/// In service the measurements stay at or under 1.5 times the limit, 0.58 octaves above it; in
+/// production their mean stays where the limit is 1 or more.
+fn widest_spread(plan: u8, c: i64, skewed: bool) -> f64 {
+    let ratio = c as f64 / 100_000.0;
     match plan {
         4 if skewed => 50_000.0,
-        4 => 36_000.0 / (ratio.max(0.0) + 1.7),
-        _ => 105_000.0,
+        4 => 38_000.0 / (ratio + 1.2),
+        _ => f64::min(105_000.0, CENTRE / (ratio + 1.7)),
     }
 }
 
 /// The measurement with g(x) - g(L) = d; none if that is out of reach.
 fn measurement(plan: u8, limit: u32, d: i64) -> Option<u32> {
-    let wanted = i64::from(logarithm::<CORRECT>(limit)) + d;
+    let wanted = Document01.g(limit) + d;
     let (mut low, mut high) = (DENSE, LARGEST);
     while low < high {
         let middle = low.midpoint(high);
-        if i64::from(logarithm::<CORRECT>(middle)) < wanted {
+        if Document01.g(middle) < wanted {
             low = middle + 1;
         } else {
             high = middle;
         }
     }
     let gross = plan == 4 && 2 * u64::from(low) > 3 * u64::from(limit);
-    (i64::from(logarithm::<CORRECT>(low)) == wanted && !gross).then_some(low)
+    (Document01.g(low) == wanted && !gross).then_some(low)
 }
 
 /// Three whole numbers with this sum and this sum of squares.
@@ -166,8 +235,11 @@ fn three_numbers(sum: i64, squares: i64) -> Option<[i64; 3]> {
     })
 }
 
-/// The root of a square number.
+/// The root of a square number, which by 16 leaves 0, 1, 4 or 9.
 fn square_root(square: i64) -> Option<i64> {
+    if !matches!(square & 15, 0 | 1 | 4 | 9) {
+        return None;
+    }
     let root = (square.max(0) as f64).sqrt().round() as i64;
     (root * root == square).then_some(root)
 }

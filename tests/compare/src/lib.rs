@@ -1,6 +1,6 @@
 //! What the two programs of the comparison share: the sheets, the calls, the lent memory and the
 //! counting. `compare` holds report and append of the delivered library against the second
-//! implementation; `compare_probe` holds the logarithm, evidence and the printed lines.
+//! implementation; `compare_probe` holds the logarithm, evidence, the printed lines and the reader.
 
 pub mod attributes;
 pub mod cases;
@@ -9,9 +9,10 @@ pub mod draft;
 pub mod exact;
 pub mod memory;
 pub mod pairs;
+pub mod paper;
 pub mod promises;
 pub mod refusals;
-pub mod seconds;
 pub mod seen;
 pub mod service;
+pub mod sweeps;
 pub mod tally;

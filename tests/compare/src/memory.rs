@@ -37,6 +37,29 @@ pub enum Edge {
     End,
 }
 
+/// How a slice without bytes is handed to C.
+#[derive(Clone, Copy)]
+pub enum Empty {
+    Slice,
+    Null,
+}
+
+impl Empty {
+    pub fn place(self, bytes: &[u8]) -> *const u8 {
+        match self {
+            Empty::Null if bytes.is_empty() => ptr::null(),
+            _ => bytes.as_ptr(),
+        }
+    }
+
+    pub fn place_mut(self, bytes: &mut [u8]) -> *mut u8 {
+        match self {
+            Empty::Null if bytes.is_empty() => ptr::null_mut(),
+            _ => bytes.as_mut_ptr(),
+        }
+    }
+}
+
 /// One page of memory seen twice: through `writer`, and, between two pages without access,
 /// through `view`.
 struct Window {

@@ -1,123 +1,42 @@
 //! Pairs that stand on a line: two sheets that differ by 1 in one measurement, or in the
 //! deviation t, and get different reports. They are found by bisection, for every plan, every
 //! row and each of its lines that can decide there.
-//!
-//! Which cells of that table are out of reach:
-//! - In the last row "what doesn't pass fails": pass and fail share one line, here `Line::Last`.
-//! - Plan 3 passes only at an even n (or at 19). Its pass number is the same at n as at n - 1 for
-//!   an odd n, and the count of engines over the limit never falls, so what passes at an odd n
-//!   has passed one engine sooner; at 3 no number is printed.
-//! - Plan 3 fails only at an odd n. Its fail number at an even n is one more than at n - 1, and
-//!   the count rises by at most one an engine, so what fails at an even n has failed sooner.
 
-use crate::cases::Report;
-use crate::draft::{Draft, Pollutant, LARGEST};
-use crate::seconds;
+use crate::draft::{Pollutant, LARGEST};
+use crate::paper::{Cell, Chosen, Line, Paper, Single, Sums};
 use random::Random;
-use second::variants::ENTRY_COLUMNS;
-use second::{last_row, Verdict, CORRECT, REPORT};
-
-#[derive(Clone, Copy, Debug, PartialEq, Eq)]
-pub enum Line {
-    Pass,
-    Fail,
-    Last,
-}
-
-/// One cell of the table of lines.
-#[derive(Clone, Copy, Debug, PartialEq, Eq)]
-pub struct Cell {
-    pub plan: u8,
-    pub row: usize,
-    pub line: Line,
-}
+use second::Decision;
 
 pub struct Pair {
     pub cell: Cell,
-    pub sheets: [Vec<u8>; 2],
+    pub sheets: [Chosen; 2],
 }
 
-/// How often a series is started anew before a cell, or a sharp pair in it, is given up.
+/// How often a series is started anew before a cell is given up.
 const ATTEMPTS: usize = 20_000;
-const SHARP_ATTEMPTS: usize = 400_000;
 
-/// Every cell that can be reached.
-pub fn cells() -> Vec<Cell> {
-    let mut cells = Vec::new();
-    for plan in 1..=4 {
-        for row in 3..=last_row::<CORRECT>(plan) {
-            for line in [Line::Pass, Line::Fail, Line::Last] {
-                let cell = Cell { plan, row, line };
-                if cell.is_reachable() {
-                    cells.push(cell);
-                }
-            }
+/// Up to `count` pairs in a cell; under plan 1 by turns in a measurement and in the deviation.
+pub fn pairs(paper: &Paper, cell: Cell, count: usize, random: &mut Random) -> Vec<Pair> {
+    let mut pairs = Vec::new();
+    for _ in 0..ATTEMPTS {
+        if pairs.len() == count {
+            break;
         }
-    }
-    cells
-}
-
-/// Up to `count` pairs in a cell.
-pub fn pairs(cell: Cell, count: usize, random: &mut Random) -> Vec<Pair> {
-    (0..ATTEMPTS)
-        .filter_map(|_| find_pair(cell, random))
-        .take(count)
-        .collect()
-}
-
-/// A pair so close to its line that the printed number, one unit off, no longer parts it.
-pub fn sharp_pair(cell: Cell, random: &mut Random) -> Option<Pair> {
-    (0..SHARP_ATTEMPTS)
-        .filter_map(|_| find_pair(cell, random))
-        .find(Pair::is_sharp)
-}
-
-impl Pair {
-    pub fn is_sharp(&self) -> bool {
-        let off = seconds::report_with_entry(self.cell.entry_variant());
-        let right = seconds::operations(CORRECT).report;
-        self.sheets
-            .iter()
-            .any(|sheet| reported(off, sheet) != reported(right, sheet))
-    }
-}
-
-fn reported(report: Report, sheet: &[u8]) -> [u8; REPORT] {
-    let mut output = [0; REPORT];
-    report(sheet, &mut output);
-    output
-}
-
-impl Cell {
-    pub fn is_reachable(self) -> bool {
-        let last = self.row == last_row::<CORRECT>(self.plan);
-        match self.line {
-            Line::Last => last,
-            Line::Pass => !last && (self.plan != 3 || self.row.is_multiple_of(2)),
-            Line::Fail => !last && (self.plan != 3 || self.row % 2 == 1),
-        }
-    }
-
-    /// The variant in which the number that makes this line is one unit off.
-    fn entry_variant(self) -> u8 {
-        let column = if self.line == Line::Fail {
-            "fail"
-        } else {
-            "pass"
+        let knob = match cell.plan {
+            1 if pairs.len().is_multiple_of(2) => Knob::Deviation,
+            _ => Knob::Measurement,
         };
-        let mut columns = ENTRY_COLUMNS.iter();
-        let found = columns.find(|(plan, name, _)| (*plan, *name) == (self.plan, column));
-        let (_, _, first) = found.expect("each plan has both columns");
-        first + self.row as u8 - 3
+        pairs.extend(find_pair(paper, cell, knob, random));
     }
+    pairs
+}
 
-    /// The verdicts on the two sides of the line.
-    fn sides(self) -> (Verdict, Verdict) {
-        match self.line {
-            Line::Pass => (Verdict::Pass, Verdict::Another),
-            Line::Fail => (Verdict::Fail, Verdict::Another),
-            Line::Last => (Verdict::Pass, Verdict::Fail),
-        }
+/// The decisions on the two sides of a line.
+fn sides(line: Line) -> (Decision, Decision) {
+    match line {
+        Line::Pass => (Decision::Pass, Decision::Open),
+        Line::Fail => (Decision::Fail, Decision::Open),
+        Line::Last => (Decision::Pass, Decision::Fail),
     }
 }
 
@@ -128,43 +47,43 @@ enum Knob {
     Deviation,
 }
 
-impl Knob {
-    fn turned(self, draft: &Draft, value: u32) -> Draft {
-        let mut draft = draft.clone();
-        match self {
+/// A series that no row has decided, with its sums, and one engine more.
+struct Trial {
+    series: Single,
+    before: Sums,
+}
+
+impl Trial {
+    fn turned(&self, knob: Knob, value: u32) -> Single {
+        let mut series = self.series.clone();
+        match knob {
             Knob::Measurement => {
-                let index = usize::from(draft.pollutants[0].number) - 1;
-                let newest = draft.engines.last_mut().expect("an engine is tested");
-                newest.measurements[index] = value;
+                *series.measurements.last_mut().expect("an engine is tested") = value;
             }
-            Knob::Deviation => draft.pollutants[0].deviation = value,
+            Knob::Deviation => series.pollutant.deviation = value,
         }
-        draft
+        series
     }
 
-    /// The verdict in a row, if the series gets there undecided.
-    fn verdict(self, draft: &Draft, row: usize, value: u32) -> Option<Verdict> {
-        let judgement = self.turned(draft, value).judged();
-        (usize::from(judgement.engine) == row).then_some(judgement.verdict)
+    /// What the last engine's row says, if the series gets there undecided.
+    fn decision(&self, paper: &Paper, knob: Knob, value: u32) -> Option<Decision> {
+        match knob {
+            Knob::Measurement => Some(paper.row(self.series.plan, &self.before.with(value))),
+            Knob::Deviation => {
+                let (decision, n) = paper.outcome(&self.turned(knob, value));
+                (n == self.series.measurements.len()).then_some(decision)
+            }
+        }
     }
 
     /// Values to look for the two sides of a line among.
-    fn candidates(self, draft: &Draft, random: &mut Random) -> Vec<u32> {
-        let pollutant = draft.pollutants[0];
-        let mut values: Vec<u32> = match self {
-            Knob::Deviation => Vec::new(),
+    fn candidates(&self, knob: Knob, random: &mut Random) -> Vec<u32> {
+        let (mut values, most) = match knob {
+            Knob::Deviation => (Vec::new(), 4_000_000),
             Knob::Measurement => {
-                let index = usize::from(pollutant.number) - 1;
-                draft
-                    .engines
-                    .iter()
-                    .map(|engine| engine.measurements[index])
-                    .collect()
+                let most = largest_measurement(self.series.plan, self.series.pollutant.limit);
+                (self.series.measurements.clone(), most)
             }
-        };
-        let most = match self {
-            Knob::Deviation => 4_000_000,
-            Knob::Measurement => largest_measurement(draft.plan, pollutant.limit),
         };
         values.extend([1, most]);
         values.extend((0..24).map(|_| random.magnitude(1, most)));
@@ -173,28 +92,20 @@ impl Knob {
     }
 }
 
-fn find_pair(cell: Cell, random: &mut Random) -> Option<Pair> {
-    let mut draft = undecided_series(cell.plan, cell.row - 1, random)?;
-    let style = Style::random(random);
-    test_random(&mut draft, &style, random);
-    let knob = match cell.plan {
-        1 if random.one_in(2) => Knob::Deviation,
-        _ => Knob::Measurement,
-    };
-    let (one_side, other_side) = cell.sides();
-    let verdict = |value| knob.verdict(&draft, cell.row, value);
-    let candidates = knob.candidates(&draft, random);
+fn find_pair(paper: &Paper, cell: Cell, knob: Knob, random: &mut Random) -> Option<Pair> {
+    let trial = random_trial(paper, cell, random)?;
+    let (one_side, other_side) = sides(cell.line);
+    let decision = |value| trial.decision(paper, knob, value);
+    let candidates = trial.candidates(knob, random);
     let on = |side| {
-        candidates
-            .iter()
-            .copied()
-            .find(|&value| verdict(value) == Some(side))
+        let mut candidates = candidates.iter().copied();
+        candidates.find(|&value| decision(value) == Some(side))
     };
     let (inside, outside) = bisect(on(one_side)?, on(other_side)?, |value| {
-        verdict(value) == Some(one_side)
+        decision(value) == Some(one_side)
     });
-    let sheets = [inside, outside].map(|value| knob.turned(&draft, value).bytes());
-    (verdict(outside) == Some(other_side)).then_some(Pair { cell, sheets })
+    let sheets = [inside, outside].map(|value| paper.chosen(&trial.turned(knob, value)));
+    (decision(outside) == Some(other_side)).then_some(Pair { cell, sheets })
 }
 
 /// Two neighbours, the first with the property and the second without.
@@ -230,11 +141,50 @@ impl Style {
         let width = (random.fraction() * 6.0 - 5.0).exp2();
         Style { centre, width }
     }
+
+    /// Under plan 1 the measurements lie by the deviation.
+    fn measurement(&self, series: &Single, random: &mut Random) -> u32 {
+        let Pollutant {
+            limit, deviation, ..
+        } = series.pollutant;
+        let octaves = match series.plan {
+            1 => f64::from(deviation) / 1_000_000.0 * (random.fraction() * 4.0 - 2.0),
+            _ => self.centre + self.width * (random.fraction() * 2.0 - 1.0),
+        };
+        let x = (f64::from(limit) * octaves.exp2()).round() as u32;
+        x.clamp(1, largest_measurement(series.plan, limit))
+    }
 }
 
-/// A series of one pollutant that no row has decided so far.
-fn undecided_series(plan: u8, count: usize, random: &mut Random) -> Option<Draft> {
-    let pollutant = Pollutant {
+/// Grows a series of one pollutant undecided up to the row, and adds any engine.
+fn random_trial(paper: &Paper, cell: Cell, random: &mut Random) -> Option<Trial> {
+    let Cell { plan, row, .. } = cell;
+    let mut series = Single {
+        plan,
+        pollutant: random_pollutant(plan, random),
+        measurements: Vec::with_capacity(row),
+    };
+    let style = match row {
+        0..=6 => Style::random(random),
+        _ => Style {
+            centre: 0.0,
+            width: random.fraction() + 0.3,
+        },
+    };
+    let mut before = Sums::none(series.pollutant);
+    for _ in 1..row {
+        let mut tries = std::iter::repeat_with(|| style.measurement(&series, random)).take(30);
+        let x = tries.find(|&x| paper.row(plan, &before.with(x)) == Decision::Open)?;
+        before = before.with(x);
+        series.measurements.push(x);
+    }
+    let newest = Style::random(random).measurement(&series, random);
+    series.measurements.push(newest);
+    Some(Trial { series, before })
+}
+
+fn random_pollutant(plan: u8, random: &mut Random) -> Pollutant {
+    Pollutant {
         number: random.between(1, 4) as u8,
         limit: match random.below(4) {
             0 => random.magnitude(10, 10_000),
@@ -245,44 +195,5 @@ fn undecided_series(plan: u8, count: usize, random: &mut Random) -> Option<Draft
         } else {
             0
         },
-    };
-    let mut draft = Draft::new(plan, vec![pollutant]);
-    let style = match count {
-        0..=5 => Style::random(random),
-        _ => Style {
-            centre: 0.0,
-            width: random.fraction() + 0.3,
-        },
-    };
-    for _ in 0..count {
-        let found = (0..30).any(|_| {
-            test_random(&mut draft, &style, random);
-            let undecided = draft.is_undecided();
-            if !undecided {
-                draft.engines.pop();
-            }
-            undecided
-        });
-        if !found {
-            return None;
-        }
     }
-    Some(draft)
-}
-
-fn test_random(draft: &mut Draft, style: &Style, random: &mut Random) {
-    let Pollutant {
-        number,
-        limit,
-        deviation,
-    } = draft.pollutants[0];
-    let octaves = match draft.plan {
-        1 => f64::from(deviation) / 1_000_000.0 * (random.fraction() * 4.0 - 2.0),
-        _ => style.centre + style.width * (random.fraction() * 2.0 - 1.0),
-    };
-    let x = (f64::from(limit) * octaves.exp2()).round() as u32;
-    let mut measurements = [0; 4];
-    let most = largest_measurement(draft.plan, limit);
-    measurements[usize::from(number) - 1] = x.clamp(1, most);
-    draft.test(measurements, 0);
 }

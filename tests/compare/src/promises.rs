@@ -5,7 +5,7 @@
 use crate::draft::{random_draft, Draft};
 use crate::tally::Tally;
 use random::Random;
-use second::{check, judge, last_row, Judgement, Verdict, CORRECT, RECORD};
+use second::{check, judge, Document, Document01, Judgement, Verdict, RECORD};
 
 /// Looks at `count` accepted sheets and prints how often each promise was put to the test.
 pub fn keep(count: usize, tally: &mut Tally) {
@@ -13,7 +13,7 @@ pub fn keep(count: usize, tally: &mut Tally) {
     let mut counts = [0u64; 3];
     for _ in 0..count {
         let draft = random_draft(&mut random);
-        if check::<CORRECT>(&draft.bytes()).is_err() {
+        if check(&Document01, &draft.bytes()).is_err() {
             continue;
         }
         counts[0] += decision_is_kept(&draft, tally);
@@ -37,7 +37,7 @@ fn decision_is_kept(draft: &Draft, tally: &mut Tally) -> u64 {
     let whole = draft.judged();
     let mut looked_at = 0;
     for length in (RECORD..sheet.len()).step_by(RECORD) {
-        let begun = judge::<CORRECT>(&sheet[..length]).expect("the start of an accepted sheet");
+        let begun = judge(&Document01, &sheet[..length]).expect("the start of an accepted sheet");
         if begun.verdict != Verdict::Another {
             tally.expect(begun == whole, &sheet, "a longer sheet keeps the decision");
             looked_at += 1;
@@ -47,7 +47,7 @@ fn decision_is_kept(draft: &Draft, tally: &mut Tally) -> u64 {
 }
 
 fn full_is_decided(draft: &Draft, tally: &mut Tally) -> u64 {
-    let full = draft.engines.len() == last_row::<CORRECT>(draft.plan);
+    let full = draft.engines.len() == Document01.last_row(draft.plan);
     if full {
         tally.expect(
             !draft.is_undecided(),

@@ -3,7 +3,7 @@
 
 use crate::draft::stop_record;
 use random::Random;
-use second::{last_row, CORRECT, LONGEST_SHEET, RECORD};
+use second::{Document, Document01, LONGEST_SHEET, RECORD};
 
 /// One way to a refusal. `spoil` tells whether the sheet had a place for it.
 pub struct Way {
@@ -116,7 +116,7 @@ pub const WAYS: [Way; 41] = [
     way(7, "deviation over 4,000,000 in plan 1", |sheet, random| {
         sheet[2] == 1
             && set_u32(sheet, random, is_pollutant, 8, |random| {
-                random.pick(&[4_000_001, 9_999_999, 1 << 31, u32::MAX])
+                random.pick(&[4_000_001, 9_999_999, (1 << 24) + 4000, 1 << 31, u32::MAX])
             })
     }),
     way(7, "deviation outside plan 1", |sheet, random| {
@@ -228,8 +228,16 @@ fn not_zero(random: &mut Random) -> u8 {
     random.pick(&[1, 2, 128, 255])
 }
 
+/// Among them numbers whose lower bytes alone are in the range.
 fn above_range(random: &mut Random) -> u32 {
-    random.pick(&[10_000_000, 10_000_001, 1 << 24, 1 << 31, u32::MAX])
+    random.pick(&[
+        10_000_000,
+        10_000_001,
+        1 << 24,
+        (1 << 24) + 4000,
+        1 << 31,
+        u32::MAX,
+    ])
 }
 
 fn has(sheet: &[u8], kind: u8) -> bool {
@@ -322,6 +330,6 @@ fn fill_over_last_row(sheet: &mut Vec<u8>) -> bool {
         .chunks_exact(RECORD)
         .filter(|record| is_engine(record))
         .count();
-    let missing = (last_row::<CORRECT>(sheet[2]) + 1).saturating_sub(tested);
+    let missing = (Document01.last_row(sheet[2]) + 1).saturating_sub(tested);
     insert(sheet, end_of(sheet, ENGINE), &engine.repeat(missing))
 }

@@ -2,9 +2,10 @@
 //! every cell of the table of lines. What was never seen was never compared.
 
 use crate::cases::Answer;
-use crate::pairs::{Cell, Line, Pair};
+use crate::corpus::Corpus;
+use crate::exact::Stand;
+use crate::paper::{Cell, Line};
 use crate::tally::Tally;
-use second::{last_row, CORRECT};
 use std::collections::BTreeMap;
 
 /// Verdict and ground as they go together.
@@ -51,51 +52,72 @@ impl Seen {
 }
 
 /// The table of pairs: a dash where no series can decide.
-pub fn print_lines(pairs: &[Pair], tally: &mut Tally) {
+pub fn print_pairs(corpus: &Corpus, tally: &mut Tally) {
     println!("pairs on a line (plan, row, pass, fail; = where pass and fail share the line)");
-    for plan in 1..=4 {
-        for row in 3..=last_row::<CORRECT>(plan) {
-            let count = |line| count_of(Cell { plan, row, line }, pairs, tally);
-            let [pass, fail, last] = [Line::Pass, Line::Fail, Line::Last].map(count);
-            match last {
-                Some(last) => println!("  {plan} {row:2} {last:>4}    ="),
-                None => println!("  {plan} {row:2} {:>4} {:>4}", shown(pass), shown(fail)),
-            }
+    print_table(corpus, &[1, 2, 3, 4], 1, tally, |cell| {
+        let pairs = corpus.pairs.iter();
+        vec![pairs.filter(|pair| pair.cell == cell).count()]
+    });
+    println!("  {} pairs, each parted", corpus.pairs.len());
+}
+
+/// The table of series that are exact to a unit of W: how many have the last W that decides, and
+/// how many one unit beyond; one for each pollutant has to be there.
+pub fn print_exact(corpus: &Corpus, tally: &mut Tally) {
+    println!("series with the last W that decides/one unit beyond, by plan, row and line");
+    print_table(corpus, &[2, 4], 4, tally, |cell| {
+        [Stand::Deciding, Stand::Beyond]
+            .map(|stand| count_exact(corpus, cell, stand))
+            .into()
+    });
+    let found = |cell: &Cell| count_exact(corpus, *cell, Stand::OnLine) > 0;
+    for (plan, fail) in [(2, false), (2, true), (4, false), (4, true)] {
+        let cells = corpus.paper.cells().into_iter();
+        let cells = cells.filter(|cell| cell.plan == plan && (cell.line == Line::Fail) == fail);
+        let rows: Vec<usize> = cells.filter(found).map(|cell| cell.row).collect();
+        let line = if fail { "fail" } else { "pass" };
+        println!("series on the {line} line itself, plan {plan}: rows {rows:?}");
+    }
+}
+
+fn count_exact(corpus: &Corpus, cell: Cell, stand: Stand) -> usize {
+    let exact = corpus.exact.iter();
+    exact
+        .filter(|(at, how, _)| (*at, *how) == (cell, stand))
+        .count()
+}
+
+/// A line for each row of the plans, with the counts of its cells, which have to be at least so
+/// many.
+fn print_table(
+    corpus: &Corpus,
+    plans: &[u8],
+    least: usize,
+    tally: &mut Tally,
+    counts: impl Fn(Cell) -> Vec<usize>,
+) {
+    let cells = corpus.paper.cells();
+    let mut shown = |cell: Cell| {
+        if !cells.contains(&cell) {
+            return None;
+        }
+        let counts = counts(cell);
+        if counts.iter().any(|&count| count < least) {
+            tally.gap(&format!("{least} in {cell:?}, only {counts:?}"));
+        }
+        let counts: Vec<String> = counts.iter().map(usize::to_string).collect();
+        Some(counts.join("/"))
+    };
+    for &plan in plans {
+        for row in 3..=corpus.paper.last_row(plan) {
+            let lines = [Line::Pass, Line::Fail, Line::Last];
+            let [pass, fail, last] = lines.map(|line| shown(Cell { plan, row, line }));
+            let dash = "-".to_string();
+            let (pass, fail) = match last {
+                Some(last) => (last, "=".to_string()),
+                None => (pass.unwrap_or(dash.clone()), fail.unwrap_or(dash)),
+            };
+            println!("  {plan} {row:2} {pass:>4} {fail:>4}");
         }
     }
-    println!("  {} pairs", pairs.len());
-}
-
-/// The rows in which some series stands exactly on a line.
-pub fn print_exact(exact: &[(Cell, Vec<u8>)]) {
-    for plan in [2, 4] {
-        for lines in [&[Line::Pass, Line::Last][..], &[Line::Fail]] {
-            let on_line =
-                |(cell, _): &&(Cell, Vec<u8>)| cell.plan == plan && lines.contains(&cell.line);
-            let rows: Vec<usize> = exact
-                .iter()
-                .filter(on_line)
-                .map(|(cell, _)| cell.row)
-                .collect();
-            println!(
-                "series exactly on a line, plan {plan}, {:?}: rows {rows:?}",
-                lines[0]
-            );
-        }
-    }
-}
-
-fn shown(count: Option<usize>) -> String {
-    count.map_or("-".to_string(), |count| count.to_string())
-}
-
-fn count_of(cell: Cell, pairs: &[Pair], tally: &mut Tally) -> Option<usize> {
-    if !cell.is_reachable() {
-        return None;
-    }
-    let count = pairs.iter().filter(|pair| pair.cell == cell).count();
-    if count == 0 {
-        tally.gap(&format!("a pair in {cell:?}"));
-    }
-    Some(count)
 }

@@ -23,4 +23,10 @@ extern "C" {
         output: *mut u8,
         output_length: usize,
     ) -> usize;
+    pub fn probe_step(
+        sheet: *const u8,
+        sheet_length: usize,
+        k: usize,
+        numbers: *mut [u32; 6],
+    ) -> usize;
 }

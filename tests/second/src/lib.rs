@@ -3,20 +3,23 @@
 //! library is compared with it, and timed against it. It aims at being plain: one function for
 //! each sentence, rows walked in order, statistics in 128-bit integers.
 //!
-//! Every operation carries a constant parameter `VARIANT`. `CORRECT` is document 01; any other
-//! value is one wrong reading of it, listed in `variants`, which the comparison has to notice.
+//! The sentences are the methods of the trait `Document`, and `Document01` is the document as it
+//! stands. Every operation takes the document it goes by. `variants` are wrong readings of single
+//! sentences, each of which the comparison has to notice.
 
 #![forbid(unsafe_code)]
 
 mod check;
+mod document;
 mod judge;
-mod logarithm;
 mod operations;
+mod reader;
 mod tables;
 pub mod variants;
 
-pub use check::{check, last_row, Refusal, Series, LONGEST_SHEET, RECORD};
-pub use judge::{fail_number, judge, pass_number, Decision, Ground, Judgement, Verdict};
-pub use logarithm::logarithm;
+pub use check::{check, Record, Refusal, Series, LONGEST_SHEET, RECORD};
+pub use document::{Document, Document01};
+pub use judge::{judge, Decision, Ending, GrossEmitters, Ground, Judgement, Row, Verdict};
 pub use operations::{append, evidence, lines, report, REPORT};
-pub use variants::CORRECT;
+pub use reader::{Reader, Step};
+pub use tables::Column;

@@ -1,8 +1,7 @@
 //! Document 01's own cases: "Series that stand on a line", and its printed example.
 
-use second::{append, evidence, judge, lines, logarithm, Decision, Ground, Refusal, Verdict};
-
-const CORRECT: u8 = second::CORRECT;
+use second::{append, evidence, judge, lines};
+use second::{Decision, Document, Document01, Ground, Refusal, Verdict};
 
 fn pollutant(number: u8, plan: u8, limit: u32, deviation: u32) -> [u8; 20] {
     let mut record = [0; 20];
@@ -31,7 +30,7 @@ fn sheet(plan: u8, limit: u32, deviation: u32, vehicles: &[(u16, u32)]) -> Vec<u
 }
 
 fn verdict(sheet: &[u8]) -> (Verdict, u8, Ground) {
-    let judgement = judge::<CORRECT>(sheet).expect("accepted");
+    let judgement = judge(&Document01, sheet).expect("accepted");
     (judgement.verdict, judgement.engine, judgement.ground)
 }
 
@@ -50,7 +49,7 @@ fn logarithms() {
         (10_000_000, 0),
     ];
     for (m, g) in values {
-        assert_eq!(logarithm::<CORRECT>(m), g);
+        assert_eq!(Document01.g(m), g);
     }
 }
 
@@ -78,14 +77,14 @@ fn plan_4() {
         number: 9,
         record: 1,
     });
-    assert!(judge::<CORRECT>(&sheet(4, 1000, 0, &[(0, 1500)])).is_ok());
+    assert!(judge(&Document01, &sheet(4, 1000, 0, &[(0, 1500)])).is_ok());
     assert_eq!(
-        judge::<CORRECT>(&sheet(4, 1000, 0, &[(7, 1500)])),
+        judge(&Document01, &sheet(4, 1000, 0, &[(7, 1500)])),
         refused_cause
     );
-    assert!(judge::<CORRECT>(&sheet(4, 1000, 0, &[(7, 1501)])).is_ok());
+    assert!(judge(&Document01, &sheet(4, 1000, 0, &[(7, 1501)])).is_ok());
     assert_eq!(
-        judge::<CORRECT>(&sheet(4, 1000, 0, &[(0, 1501)])),
+        judge(&Document01, &sheet(4, 1000, 0, &[(0, 1501)])),
         refused_cause
     );
     let three = |causes: [u16; 2]| {
@@ -107,7 +106,7 @@ fn no_engine() {
     sheet.push(3);
     sheet.resize(40, 0);
     assert_eq!(verdict(&sheet), (Verdict::Fail, 0, Ground::Stopped));
-    assert_eq!(evidence::<CORRECT>(&sheet).map(<[u8]>::len), Ok(40));
+    assert_eq!(evidence(&Document01, &sheet).map(<[u8]>::len), Ok(40));
 }
 
 #[test]
@@ -117,16 +116,16 @@ fn printed_example() {
     buffer[..20].copy_from_slice(&pollutant(4, 3, 150, 0));
     for (place, record) in records.iter().enumerate() {
         assert_eq!(
-            append::<CORRECT>(&mut buffer, 20 + 20 * place, record),
+            append(&Document01, &mut buffer, 20 + 20 * place, record),
             Ok(())
         );
     }
-    assert_eq!(lines::<CORRECT>(&buffer[..100]), "pass 4 1\n4 pass 4\n");
-    assert_eq!(evidence::<CORRECT>(&buffer), Ok(&buffer[..100]));
+    assert_eq!(lines(&Document01, &buffer[..100]), "pass 4 1\n4 pass 4\n");
+    assert_eq!(evidence(&Document01, &buffer), Ok(&buffer[..100]));
     assert_eq!(
-        judge::<CORRECT>(&buffer).map(|judgement| judgement.decisions[3]),
+        judge(&Document01, &buffer).map(|judgement| judgement.decisions[3]),
         Ok((Decision::Pass, 4))
     );
     buffer[100] = 9;
-    assert_eq!(lines::<CORRECT>(&buffer), "refused 2 5\n");
+    assert_eq!(lines(&Document01, &buffer), "refused 2 5\n");
 }

@@ -1,0 +1,149 @@
+//! What the probe library has entries for, of it and of the second implementation.
+
+use compare::memory::{Edge, Empty, Lender};
+use entries::{probe_evidence, probe_lines, probe_logarithm, probe_step};
+use second::{evidence, lines, Document, Reader, Step};
+
+/// What evidence answers: the length of the part, 0 for a refusal, and the refusal's code, 0 for
+/// none.
+pub type Evidence = (usize, u32);
+
+/// What stands at a reader: how many whole records are left, which step of five, and its fields.
+pub type Standing = (usize, [u32; 6]);
+
+pub trait Operations {
+    fn logarithm(&self, m: u32) -> i64;
+    fn evidence(&self, sheet: &[u8]) -> Evidence;
+    /// Writes the lines if there is room, and answers how long they are.
+    fn lines(&self, sheet: &[u8], output: &mut [u8]) -> usize;
+    /// Moves a reader on k times, or to the end, and writes the step and its fields.
+    fn step(&self, sheet: &[u8], k: usize, numbers: &mut [u8]) -> usize;
+}
+
+pub const LIBRARY: Library = Library(Empty::Slice);
+pub const WITH_NULL: Library = Library(Empty::Null);
+
+/// The probe library.
+pub struct Library(Empty);
+
+// SAFETY of the calls: every pointer is that of a slice, and its length goes with it; or it is
+// NULL, and its length is 0; or it is that of the numbers to write.
+impl Operations for Library {
+    fn logarithm(&self, m: u32) -> i64 {
+        i64::from(unsafe { probe_logarithm(m) })
+    }
+
+    fn evidence(&self, sheet: &[u8]) -> Evidence {
+        let mut code = u32::MAX;
+        let length = unsafe { probe_evidence(self.0.place(sheet), sheet.len(), &mut code) };
+        (length, code)
+    }
+
+    fn lines(&self, sheet: &[u8], output: &mut [u8]) -> usize {
+        let (place, length) = (self.0.place_mut(output), output.len());
+        unsafe { probe_lines(self.0.place(sheet), sheet.len(), place, length) }
+    }
+
+    fn step(&self, sheet: &[u8], k: usize, numbers: &mut [u8]) -> usize {
+        let place = numbers.as_mut_ptr().cast::<[u32; 6]>();
+        assert!(place.is_aligned() && numbers.len() == NUMBERS);
+        unsafe { probe_step(self.0.place(sheet), sheet.len(), k, place) }
+    }
+}
+
+/// The second implementation by some document.
+pub struct Second<'a, D: ?Sized>(pub &'a D);
+
+impl<D: Document + ?Sized> Operations for Second<'_, D> {
+    fn logarithm(&self, m: u32) -> i64 {
+        self.0.g(m)
+    }
+
+    fn evidence(&self, sheet: &[u8]) -> Evidence {
+        match evidence(self.0, sheet) {
+            Ok(part) => (part.len(), 0),
+            Err(refusal) => (0, refusal.code()),
+        }
+    }
+
+    fn lines(&self, sheet: &[u8], output: &mut [u8]) -> usize {
+        let text = lines(self.0, sheet);
+        if let Some(room) = output.get_mut(..text.len()) {
+            room.copy_from_slice(text.as_bytes());
+        }
+        text.len()
+    }
+
+    fn step(&self, sheet: &[u8], k: usize, numbers: &mut [u8]) -> usize {
+        let mut reader = Reader::new(self.0, sheet);
+        let mut moved = 0;
+        while moved < k && reader.step() != Step::End {
+            reader.move_on();
+            moved += 1;
+        }
+        let fields = fields(reader.step()).map(u32::to_ne_bytes);
+        numbers.copy_from_slice(fields.as_flattened());
+        reader.left()
+    }
+}
+
+/// The step's number and its five fields.
+fn fields(step: Step) -> [u32; 6] {
+    match step {
+        Step::Pollutant {
+            number,
+            plan,
+            limit,
+            deviation,
+        } => [1, number.into(), plan.into(), limit, deviation, 0],
+        Step::Engine {
+            cause,
+            measurements: [one, two, three, four],
+        } => [2, cause.into(), one, two, three, four],
+        Step::Stop => [3, 0, 0, 0, 0, 0],
+        Step::Other { kind } => [4, kind.into(), 0, 0, 0, 0],
+        Step::End => [5, 0, 0, 0, 0, 0],
+    }
+}
+
+/// The room that the longest lines fit into.
+pub const LINES: usize = 64;
+/// The bytes of six numbers.
+const NUMBERS: usize = 24;
+/// What memory holds before it is written.
+const UNWRITTEN: u8 = 0xA5;
+
+/// The evidence, how long the lines are, and what the output holds then.
+pub type Answers = (Evidence, usize, String);
+
+/// With so much room for the lines.
+pub fn answers(
+    operations: &dyn Operations,
+    sheet: &[u8],
+    room: usize,
+    lender: &mut impl Lender,
+    edge: Edge,
+) -> Answers {
+    let evidence = |sheet: &[u8], _: &mut [u8]| operations.evidence(sheet);
+    let (evidence, _) = lender.lend(sheet, &[], edge, evidence);
+    let lines = |sheet: &[u8], output: &mut [u8]| operations.lines(sheet, output);
+    let (length, output) = lender.lend(sheet, &[UNWRITTEN; LINES][..room], edge, lines);
+    let text = String::from_utf8_lossy(&output).into_owned();
+    (evidence, length, text)
+}
+
+pub fn step_at(
+    operations: &dyn Operations,
+    sheet: &[u8],
+    k: usize,
+    lender: &mut impl Lender,
+    edge: Edge,
+) -> Standing {
+    let step = |sheet: &[u8], numbers: &mut [u8]| operations.step(sheet, k, numbers);
+    let (left, bytes) = lender.lend(sheet, &[UNWRITTEN; NUMBERS], edge, step);
+    let mut numbers = [0; 6];
+    for (number, bytes) in numbers.iter_mut().zip(bytes.as_chunks().0) {
+        *number = u32::from_ne_bytes(*bytes);
+    }
+    (left, numbers)
+}

@@ -1,0 +1,278 @@
+//! The rows of the plans for one pollutant, without gross emitters and without a stop: the table
+//! of decision numbers as docs/FORMAT.md prints it, and document 01's rules in 128-bit integers.
+//! It chooses the sheets that stand on a line and says what has to be answered to them, so that
+//! neither implementation under test chooses what it is asked. Only g is the second
+//! implementation's: the g of every m that can be measured is compared with the library's.
+
+use crate::draft::{Draft, Pollutant};
+use crate::tally::Tally;
+use second::{Column, Decision, Document, Document01, Ground, Verdict, REPORT};
+
+const PAGE: &str = concat!(env!("CARGO_MANIFEST_DIR"), "/../../docs/FORMAT.md");
+const HEADER: &str =
+    "| n | 1: A | 1: B | 2: A | 2: B | 3: pass up to | 3: fail from | 4: A | 4: B |";
+
+/// The decision numbers of each plan, row 3 first.
+pub struct Paper {
+    plans: [Vec<Numbers>; 4],
+}
+
+/// None where the page says "never" or "none".
+struct Numbers {
+    pass: Option<i128>,
+    fail: Option<i128>,
+}
+
+/// One line that parts two decisions: that of the pass number or of the fail number, or in the
+/// last row the one between pass and fail.
+#[derive(Clone, Copy, Debug, PartialEq, Eq)]
+pub enum Line {
+    Pass,
+    Fail,
+    Last,
+}
+
+/// One cell of the table of lines.
+#[derive(Clone, Copy, Debug, PartialEq, Eq)]
+pub struct Cell {
+    pub plan: u8,
+    pub row: usize,
+    pub line: Line,
+}
+
+/// A series of one pollutant.
+#[derive(Clone)]
+pub struct Single {
+    pub plan: u8,
+    pub pollutant: Pollutant,
+    pub measurements: Vec<u32>,
+}
+
+/// One pollutant after n engines.
+#[derive(Clone, Copy)]
+pub struct Sums {
+    pollutant: Pollutant,
+    limit_logarithm: i128,
+    n: usize,
+    /// D, and the sum of the d_j squared.
+    d: i128,
+    squares: i128,
+    /// c, "engines with x > L".
+    over: i128,
+}
+
+/// A sheet, and the report that the paper asks for.
+pub struct Chosen {
+    pub sheet: Vec<u8>,
+    pub report: [u8; REPORT],
+}
+
+impl Paper {
+    pub fn read() -> Self {
+        let page = std::fs::read_to_string(PAGE).expect("docs/FORMAT.md can be read");
+        let table = page.lines().skip_while(|line| *line != HEADER).skip(2);
+        let mut plans = [const { Vec::new() }; 4];
+        for (n, line) in (3..).zip(table.take_while(|line| line.starts_with('|'))) {
+            let cells: Vec<&str> = line.split('|').map(str::trim).collect();
+            assert_eq!(cells[1], n.to_string(), "the rows follow each other");
+            for (plan, pair) in plans.iter_mut().zip(cells[2..10].chunks(2)) {
+                if pair != ["", ""] {
+                    assert_eq!(plan.len() + 3, n, "no row is left out");
+                    let (pass, fail) = (number(pair[0]), number(pair[1]));
+                    plan.push(Numbers { pass, fail });
+                }
+            }
+        }
+        let found = plans.iter().all(|plan| !plan.is_empty());
+        assert!(found, "docs/FORMAT.md has the table");
+        Paper { plans }
+    }
+
+    /// "The last row of each plan is the last one filled in."
+    pub fn last_row(&self, plan: u8) -> usize {
+        self.plans[usize::from(plan) - 1].len() + 2
+    }
+
+    fn numbers(&self, plan: u8, n: usize) -> &Numbers {
+        &self.plans[usize::from(plan) - 1][n - 3]
+    }
+
+    /// The number that makes a line.
+    pub fn number(&self, Cell { plan, row, line }: Cell) -> i128 {
+        let numbers = self.numbers(plan, row);
+        let number = match line {
+            Line::Pass | Line::Last => numbers.pass,
+            Line::Fail => numbers.fail,
+        };
+        number.expect("a line has a number")
+    }
+
+    /// Every cell that can be reached:
+    /// - In the last row "what doesn't pass fails": pass and fail share one line, `Line::Last`.
+    /// - Plan 3 passes only at an even n (or at 19). Its pass number is the same at n as at n - 1
+    ///   for an odd n, and the count of engines over the limit never falls, so what passes at an
+    ///   odd n has passed one engine sooner; at 3 no number is printed.
+    /// - Plan 3 fails only at an odd n. Its fail number at an even n is one more than at n - 1, and
+    ///   the count rises by at most one an engine, so what fails at an even n has failed sooner.
+    pub fn cells(&self) -> Vec<Cell> {
+        let mut cells = Vec::new();
+        for plan in 1..=4 {
+            let last = self.last_row(plan);
+            for row in 3..last {
+                let lines: &[Line] = match (plan, row % 2) {
+                    (3, 0) => &[Line::Pass],
+                    (3, _) => &[Line::Fail],
+                    _ => &[Line::Pass, Line::Fail],
+                };
+                cells.extend(lines.iter().map(|&line| Cell { plan, row, line }));
+            }
+            let (row, line) = (last, Line::Last);
+            cells.push(Cell { plan, row, line });
+        }
+        cells
+    }
+
+    /// "A row gives pass, fail or open; pass is tested first. In the last row, what doesn't pass
+    /// fails."
+    pub fn row(&self, plan: u8, sums: &Sums) -> Decision {
+        if sums.n < 3 {
+            return Decision::Open;
+        }
+        let numbers = self.numbers(plan, sums.n);
+        let last = sums.n == self.last_row(plan);
+        if numbers.pass.is_some_and(|a| sums.pass(plan, a)) {
+            Decision::Pass
+        } else if last || numbers.fail.is_some_and(|b| sums.fail(plan, b)) {
+            Decision::Fail
+        } else {
+            Decision::Open
+        }
+    }
+
+    /// The decision and the engine that brought it; open at the last engine where none did.
+    pub fn outcome(&self, series: &Single) -> (Decision, usize) {
+        let mut sums = Sums::none(series.pollutant);
+        for &x in &series.measurements {
+            sums = sums.with(x);
+            let decision = self.row(series.plan, &sums);
+            if decision != Decision::Open {
+                return (decision, sums.n);
+            }
+        }
+        (Decision::Open, sums.n)
+    }
+
+    /// The series as a sheet, with its report: mark, verdict, ground, engine, four pairs.
+    pub fn chosen(&self, series: &Single) -> Chosen {
+        let (decision, n) = self.outcome(series);
+        let (verdict, ground) = match decision {
+            Decision::Open => (Verdict::Another, Ground::None),
+            Decision::Pass => (Verdict::Pass, Ground::Row),
+            Decision::Fail => (Verdict::Fail, Ground::Row),
+        };
+        let mut report = [0; REPORT];
+        report[..4].copy_from_slice(&[16, verdict as u8, ground as u8, n as u8]);
+        if decision != Decision::Open {
+            let place = 2 + 2 * usize::from(series.pollutant.number);
+            report[place..place + 2].copy_from_slice(&[decision as u8, n as u8]);
+        }
+        let sheet = series.bytes();
+        Chosen { sheet, report }
+    }
+
+    /// The page's table against the printed columns. These leave plan 3's blank as -1, and have no
+    /// fail number in a last row, which needs none.
+    pub fn compare_with_printed(&self, tally: &mut Tally) {
+        for plan in 1..=4 {
+            for n in 3..=self.last_row(plan) {
+                let numbers = self.numbers(plan, n);
+                let printed = |column| Document01.number(plan, column, n).map(i128::from);
+                let pass = numbers.pass.or((plan == 3).then_some(-1));
+                let fail = numbers.fail.filter(|_| n < self.last_row(plan));
+                let expected = [printed(Column::Pass), printed(Column::Fail)];
+                let what = || format!("the numbers of docs/FORMAT.md, plan {plan}, row {n}");
+                tally.compare(&[], what, [pass, fail], expected);
+            }
+            let last = Document01.last_row(plan);
+            let what = || format!("the last row of docs/FORMAT.md, plan {plan}");
+            tally.compare(&[], what, self.last_row(plan), last);
+        }
+    }
+}
+
+/// The page writes a minus as U+2212.
+fn number(cell: &str) -> Option<i128> {
+    match cell {
+        "never" | "none" => None,
+        _ => Some(cell.replace('\u{2212}', "-").parse().expect("a number")),
+    }
+}
+
+impl Single {
+    pub fn bytes(&self) -> Vec<u8> {
+        let mut draft = Draft::new(self.plan, vec![self.pollutant]);
+        for &x in &self.measurements {
+            let mut measurements = [0; 4];
+            measurements[usize::from(self.pollutant.number) - 1] = x;
+            draft.test(measurements, 0);
+        }
+        draft.bytes()
+    }
+}
+
+impl Sums {
+    pub fn none(pollutant: Pollutant) -> Self {
+        Sums {
+            pollutant,
+            limit_logarithm: i128::from(Document01.g(pollutant.limit)),
+            n: 0,
+            d: 0,
+            squares: 0,
+            over: 0,
+        }
+    }
+
+    /// One engine more.
+    pub fn with(self, x: u32) -> Self {
+        let d = i128::from(Document01.g(x)) - self.limit_logarithm;
+        Sums {
+            n: self.n + 1,
+            d: self.d + d,
+            squares: self.squares + d * d,
+            over: self.over + i128::from(x > self.pollutant.limit),
+            ..self
+        }
+    }
+
+    fn pass(&self, plan: u8, a: i128) -> bool {
+        match plan {
+            1 => -self.d * 693_147_181 > a * i128::from(self.pollutant.deviation) * 65_536,
+            3 => self.over <= a,
+            _ => self.p() <= self.root(a),
+        }
+    }
+
+    fn fail(&self, plan: u8, b: i128) -> bool {
+        match plan {
+            1 => -self.d * 693_147_181 < b * i128::from(self.pollutant.deviation) * 65_536,
+            3 => self.over >= b,
+            _ => self.p() >= self.root(b),
+        }
+    }
+
+    /// P, as `signed_square` of it.
+    fn p(&self) -> i128 {
+        signed_square(100_000 * self.d)
+    }
+
+    /// c root W, as `signed_square` of it.
+    fn root(&self, c: i128) -> i128 {
+        signed_square(c) * (self.n as i128 * self.squares - self.d * self.d)
+    }
+}
+
+/// The square with the sign of x. It rises with x, so it compares as x does, and of a root it is
+/// a whole number.
+fn signed_square(x: i128) -> i128 {
+    x * x.abs()
+}

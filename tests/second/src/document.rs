@@ -1,0 +1,550 @@
+//! Document 01, "Sequential conformity verdicts", sentence by sentence: one small method for each
+//! sentence or number that can be misread, in the document's order. `check`, `judge`,
+//! `operations` and `reader` put the sentences together and hold for any document.
+
+use crate::check::{number_at, Record, Refusal, Series, ENGINE, LONGEST_SHEET, POLLUTANT, RECORD};
+use crate::judge::{Decision, Ending, GrossEmitters, Ground, Judgement, Row, Verdict};
+use crate::operations::REPORT;
+use crate::tables::{self, Column};
+
+/// Document 01 as it stands.
+pub struct Document01;
+
+impl Document for Document01 {}
+
+/// "Limits and measurements are whole thousandths of the limit's unit, 1 to 9,999,999."
+const LARGEST: u32 = 9_999_999;
+
+pub trait Document {
+    // ---- The logarithm
+
+    /// "For m from 1 to 9,999,999: e is the number of binary digits of m less one, and
+    /// M = m x 2^(31-e). [..] g(m) = e x 65536 + the sixteen bits [..]. Any other m gets 0."
+    fn g(&self, m: u32) -> i64 {
+        if !(1..=LARGEST).contains(&m) {
+            return 0;
+        }
+        let e = u32::BITS - 1 - m.leading_zeros();
+        i64::from(e * 65536 + self.sixteen_bits(m << (31 - e)))
+    }
+
+    /// "Sixteen times: Q = M x M", and a bit each time, "first bit highest".
+    fn sixteen_bits(&self, m: u32) -> u32 {
+        let mut m = u64::from(m);
+        let mut bits = 0;
+        for _ in 0..16 {
+            let q = m * m;
+            let bit = self.next_bit(q);
+            m = self.next_m(q, bit);
+            bits = bits << 1 | u32::from(bit);
+        }
+        bits
+    }
+
+    /// "If Q >= 2^63 the next bit is 1 [..], else the bit is 0".
+    fn next_bit(&self, q: u64) -> bool {
+        q >= 1 << 63
+    }
+
+    /// "M becomes Q / 2^32, else [..] Q / 2^31, rounded down."
+    fn next_m(&self, q: u64, bit: bool) -> u64 {
+        if bit {
+            q >> 32
+        } else {
+            q >> 31
+        }
+    }
+
+    /// "W = n x (sum of d_j squared) - D squared".
+    fn w(&self, row: &Row) -> i128 {
+        row.n as i128 * i128::from(row.squares) - i128::from(row.d) * i128::from(row.d)
+    }
+
+    // ---- The sheet
+
+    /// Kind 1: "bytes 4-7 limit L".
+    fn limit(&self, record: &Record) -> u32 {
+        number_at(record, 4)
+    }
+
+    /// Kind 1: "bytes 8-11 deviation t".
+    fn deviation(&self, record: &Record) -> u32 {
+        number_at(record, 8)
+    }
+
+    /// Kind 1: "Byte 3 and bytes 12-19 are zero."
+    fn pollutant_rest_is_zero(&self, record: &Record) -> bool {
+        record[3] == 0 && all_zero(&record[12..])
+    }
+
+    /// Kind 2: "byte 1 zero".
+    fn engine_rest_is_zero(&self, record: &Record) -> bool {
+        record[1] == 0
+    }
+
+    /// Kind 2: "bytes 2-3 cause".
+    fn cause(&self, record: &Record) -> u16 {
+        u16::from_le_bytes([record[2], record[3]])
+    }
+
+    /// Kind 2: "bytes 4-19 four u32 measurements, pollutant 1 first". Pollutants count from 0 here.
+    fn measurement(&self, record: &Record, pollutant: usize) -> u32 {
+        number_at(record, 4 + 4 * pollutant)
+    }
+
+    /// Kind 3: "bytes 1-19 zero".
+    fn stop_rest_is_zero(&self, record: &Record) -> bool {
+        all_zero(&record[1..])
+    }
+
+    /// Limits are "1 to 9,999,999".
+    fn limit_fits(&self, limit: u32) -> bool {
+        (1..=LARGEST).contains(&limit)
+    }
+
+    /// Measurements are "1 to 9,999,999".
+    fn measurement_fits(&self, x: u32) -> bool {
+        (1..=LARGEST).contains(&x)
+    }
+
+    /// t is "1 to 4,000,000 in plan 1, zero otherwise".
+    fn deviation_fits(&self, plan: u8, deviation: u32) -> bool {
+        match plan {
+            1 => (1..=4_000_000).contains(&deviation),
+            _ => deviation == 0,
+        }
+    }
+
+    /// "A measurement of an undeclared pollutant is zero."
+    fn undeclared_fits(&self, x: u32) -> bool {
+        x == 0
+    }
+
+    /// "A gross emitter is a vehicle with 2x > 3L for some pollutant"; an undeclared one has x = 0.
+    fn is_gross(&self, x: u32, limit: u32) -> bool {
+        2 * u64::from(x) > 3 * u64::from(limit)
+    }
+
+    /// "In plan 4 its cause is 1 to 65,534".
+    fn gross_cause_fits(&self, cause: u16) -> bool {
+        (1..=65_534).contains(&cause)
+    }
+
+    /// "Any other vehicle's is 0; in plans 1 to 3 cause is 0."
+    fn other_cause_fits(&self, cause: u16) -> bool {
+        cause == 0
+    }
+
+    /// "A sheet under reading is the lent bytes and the number of the next record": the record of
+    /// that number, if it is there whole.
+    fn record_at(&self, sheet: &[u8], number: usize) -> Option<Record> {
+        sheet.as_chunks().0.get(number).copied()
+    }
+
+    // ---- Plans
+
+    /// "The last row belongs to the plan: 32, 32, 19 and 15 engines."
+    fn last_row(&self, plan: u8) -> usize {
+        match plan {
+            1 | 2 => 32,
+            3 => 19,
+            _ => 15,
+        }
+    }
+
+    /// "Decisions start at n = 3."
+    fn is_row(&self, n: usize) -> bool {
+        n >= 3
+    }
+
+    /// "A row gives pass, fail or open; pass is tested first."
+    fn decision(&self, row: &Row) -> Decision {
+        if self.passes(row) {
+            Decision::Pass
+        } else if self.fails(row) {
+            Decision::Fail
+        } else {
+            Decision::Open
+        }
+    }
+
+    /// Plan 3, besides the others below: "Pass if c <= [..]; fail if c >= [..]".
+    fn passes(&self, row: &Row) -> bool {
+        let Some(a) = self.number(row.plan, Column::Pass, row.n) else {
+            return false;
+        };
+        match row.plan {
+            1 => self.is_above(row, a),
+            3 => row.c <= a,
+            _ => self.reaches(Column::Pass, row, a),
+        }
+    }
+
+    /// As `passes`, with B.
+    fn fails(&self, row: &Row) -> bool {
+        if row.n == self.last_row(row.plan) {
+            return self.fails_in_last_row(row);
+        }
+        let Some(b) = self.number(row.plan, Column::Fail, row.n) else {
+            return false;
+        };
+        match row.plan {
+            1 => self.is_below(row, b),
+            3 => row.c >= b,
+            _ => self.reaches(Column::Fail, row, b),
+        }
+    }
+
+    /// "In the last row, what doesn't pass fails."
+    fn fails_in_last_row(&self, _: &Row) -> bool {
+        true
+    }
+
+    /// A and B: the printed columns.
+    fn number(&self, plan: u8, column: Column, n: usize) -> Option<i64> {
+        tables::printed(plan, column, n)
+    }
+
+    /// Plan 1: "T = -D. Pass if T x 693,147,181 > A x t x 65,536".
+    fn is_above(&self, row: &Row, a: i64) -> bool {
+        i128::from(-row.d) * self.ln_2() > scaled_deviation(row, a)
+    }
+
+    /// "Fail if less than the same with B."
+    fn is_below(&self, row: &Row, b: i64) -> bool {
+        i128::from(-row.d) * self.ln_2() < scaled_deviation(row, b)
+    }
+
+    /// Plan 1's number for the natural logarithm of 2.
+    fn ln_2(&self) -> i128 {
+        693_147_181
+    }
+
+    /// Plans 2 and 4: "P = 100,000 x D. Pass if P <= A root W, fail if P >= B root W".
+    fn reaches(&self, column: Column, row: &Row, number: i64) -> bool {
+        let (p, w) = (100_000 * i128::from(row.d), self.w(row));
+        match column {
+            Column::Pass => self.at_most_root(p, number, w),
+            Column::Fail => self.at_least_root(p, number, w),
+        }
+    }
+
+    /// "For A < 0, P <= A root W means P <= 0 and P squared >= A squared x W; for A >= 0, P <= 0
+    /// or P squared <= A squared x W."
+    fn at_most_root(&self, p: i128, a: i64, w: i128) -> bool {
+        let bound = i128::from(a) * i128::from(a) * w;
+        if a < 0 {
+            p <= 0 && p * p >= bound
+        } else {
+            p <= 0 || p * p <= bound
+        }
+    }
+
+    /// "For B > 0, P >= B root W means P >= 0 and P squared >= B squared x W."
+    fn at_least_root(&self, p: i128, b: i64, w: i128) -> bool {
+        p >= 0 && p * p >= i128::from(b) * i128::from(b) * w
+    }
+
+    /// Plan 3: "c = engines with x > L."
+    fn is_over(&self, x: u32, limit: u32) -> bool {
+        x > limit
+    }
+
+    /// Plan 4: "Before a row's statistics, in order: two gross emitters of equal cause among the
+    /// first n: the series fails. n = 15 and two or more gross emitters: referred to the
+    /// authority."
+    fn before_statistics(&self, n: usize, gross: &GrossEmitters) -> Option<Ending> {
+        if gross.equal_cause {
+            Some((Verdict::Fail, Ground::EqualCause))
+        } else if self.is_referred(n, gross.count) {
+            Some((Verdict::Referred, Ground::Referred))
+        } else {
+            None
+        }
+    }
+
+    /// "Two gross emitters of equal cause": whether a vehicle's is that of one before it.
+    fn is_equal_cause(&self, before: &[u16], cause: u16) -> bool {
+        before.contains(&cause)
+    }
+
+    /// "n = 15 and two or more gross emitters".
+    fn is_referred(&self, n: usize, gross: usize) -> bool {
+        n == 15 && gross >= 2
+    }
+
+    /// "n < 15 and the newest vehicle (at n = 3, any of the three) a gross emitter: the row is
+    /// open for every pollutant."
+    fn is_left_open(&self, n: usize, gross: &GrossEmitters) -> bool {
+        n < 15 && (gross.newest || n == 3 && gross.count > 0)
+    }
+
+    /// What ends the series "before a row's statistics" keeps them from being looked at.
+    fn row_ending(
+        &self,
+        before: Option<Ending>,
+        statistics: &mut dyn FnMut() -> Option<Ending>,
+    ) -> Option<Ending> {
+        before.or_else(statistics)
+    }
+
+    // ---- The series
+
+    /// "A pollutant that has passed is not looked at again."
+    fn is_looked_at(&self, decision: Decision) -> bool {
+        decision != Decision::Pass
+    }
+
+    /// "Any fail in a row: the series fails there, and every other pollutant deciding in that row
+    /// keeps its decision": the row goes on after a fail.
+    fn row_goes_on(&self, _any_failed: bool) -> bool {
+        true
+    }
+
+    /// "Equal cause, a stop and referral leave open pollutants open."
+    fn left_open(&self, _: Ending, _n: usize) -> (Decision, u8) {
+        (Decision::Open, 0)
+    }
+
+    /// "A stop on an undecided series fails it at the engines tested, also below 3. Otherwise:
+    /// another."
+    fn undecided(&self, stopped: bool, _tested: usize) -> Ending {
+        if stopped {
+            (Verdict::Fail, Ground::Stopped)
+        } else {
+            (Verdict::Another, Ground::None)
+        }
+    }
+
+    /// A series decided at n. "Engines after the decision are checked and counted for nothing",
+    /// and a stop is for an undecided series.
+    fn decided(&self, ending: Ending, n: usize, _: &Series) -> (Ending, usize) {
+        (ending, n)
+    }
+
+    // ---- Other operations
+
+    /// "Evidence hands back the part of the sheet from its start through the deciding engine's
+    /// record; the whole sheet where undecided, stopped or referred."
+    fn evidence_length(&self, ground: Ground, through_engine: usize, whole: usize) -> usize {
+        match ground {
+            Ground::Row | Ground::EqualCause => through_engine,
+            Ground::None | Ground::Stopped | Ground::Referred => whole,
+        }
+    }
+
+    /// "Report writes 20 bytes, one for each value: 16 as the mark of a report, verdict, ground,
+    /// engine, four pairs of decision and engine, pollutant 1 first, eight zeros."
+    fn report_bytes(&self, judgement: &Judgement) -> [u8; REPORT] {
+        let mut bytes = [0; REPORT];
+        bytes[0] = 16;
+        bytes[1] = judgement.verdict as u8;
+        bytes[2] = judgement.ground as u8;
+        bytes[3] = judgement.engine;
+        for (pollutant, (decision, engine)) in judgement.decisions.into_iter().enumerate() {
+            bytes[4 + 2 * pollutant] = decision as u8;
+            bytes[5 + 2 * pollutant] = engine;
+        }
+        bytes
+    }
+
+    /// "Report writes 20 bytes", all of them.
+    fn bytes_written(&self) -> usize {
+        REPORT
+    }
+
+    // ---- What each operation turns down
+
+    /// "1, no bytes, a length not a multiple of 20, or over 740 bytes."
+    fn length_fits(&self, length: usize) -> bool {
+        length != 0 && length.is_multiple_of(RECORD) && length <= LONGEST_SHEET
+    }
+
+    /// "The first faulty record, and in it the lowest of": 2, 3, and what its kind can have.
+    fn fault(&self, record: &Record, so_far: &Series) -> Option<u8> {
+        if !self.kind_fits(record[0]) {
+            Some(2)
+        } else if self.is_misplaced(record[0], so_far) {
+            Some(3)
+        } else {
+            match record[0] {
+                POLLUTANT => self.pollutant_fault(record, so_far),
+                ENGINE => self.engine_fault(record, so_far),
+                _ => self.stop_fault(record, so_far),
+            }
+        }
+    }
+
+    /// "2, kind not 1 to 3".
+    fn kind_fits(&self, kind: u8) -> bool {
+        (1..=3).contains(&kind)
+    }
+
+    /// "3, first record not kind 1, kind 1 after another kind, or anything after kind 3".
+    fn is_misplaced(&self, kind: u8, so_far: &Series) -> bool {
+        let first = so_far.declared == 0;
+        first && kind != POLLUTANT || kind == POLLUTANT && so_far.tested > 0 || so_far.stopped
+    }
+
+    /// The lowest of "4 [..]; 5 [..]; 6, limit out of range; 7, deviation; [..] 12, another byte
+    /// that must be zero".
+    fn pollutant_fault(&self, record: &Record, so_far: &Series) -> Option<u8> {
+        let (number, plan) = (record[1], record[2]);
+        if !self.pollutant_fits(number, so_far.highest_pollutant) {
+            Some(4)
+        } else if !self.plan_fits(plan, so_far) {
+            Some(5)
+        } else if !self.limit_fits(self.limit(record)) {
+            Some(6)
+        } else if !self.deviation_fits(plan, self.deviation(record)) {
+            Some(7)
+        } else if !self.pollutant_rest_is_zero(record) {
+            Some(12)
+        } else {
+            None
+        }
+    }
+
+    /// "4, pollutant number not 1 to 4 or not above the one before".
+    fn pollutant_fits(&self, number: u8, before: u8) -> bool {
+        (1..=4).contains(&number) && number > before
+    }
+
+    /// "5, plan not 1 to 4 or unlike the first".
+    fn plan_fits(&self, plan: u8, so_far: &Series) -> bool {
+        (1..=4).contains(&plan) && (so_far.declared == 0 || plan == so_far.plan)
+    }
+
+    /// The lowest of "8, measurement [..]; 9, cause; 10, more engines than the last row; [..] 12,
+    /// another byte that must be zero".
+    fn engine_fault(&self, record: &Record, so_far: &Series) -> Option<u8> {
+        if !self.measurements_fit(record, so_far) {
+            Some(8)
+        } else if !self.cause_fits(record, so_far) {
+            Some(9)
+        } else if self.is_one_too_many(so_far) {
+            Some(10)
+        } else if !self.engine_rest_is_zero(record) {
+            Some(12)
+        } else {
+            None
+        }
+    }
+
+    /// "8, measurement, also one not zero of an undeclared pollutant".
+    fn measurements_fit(&self, record: &Record, so_far: &Series) -> bool {
+        (0..4).all(|pollutant| {
+            let x = self.measurement(record, pollutant);
+            match so_far.limits[pollutant] {
+                0 => self.undeclared_fits(x),
+                _ => self.measurement_fits(x),
+            }
+        })
+    }
+
+    /// "9, cause".
+    fn cause_fits(&self, record: &Record, so_far: &Series) -> bool {
+        let is_gross = |pollutant| {
+            self.is_gross(
+                self.measurement(record, pollutant),
+                so_far.limits[pollutant],
+            )
+        };
+        if so_far.plan == 4 && (0..4).any(is_gross) {
+            self.gross_cause_fits(self.cause(record))
+        } else {
+            self.other_cause_fits(self.cause(record))
+        }
+    }
+
+    /// "10, more engines than the last row".
+    fn is_one_too_many(&self, so_far: &Series) -> bool {
+        so_far.tested == self.last_row(so_far.plan)
+    }
+
+    /// The lowest of "11, stop in plan 4; 12, another byte that must be zero".
+    fn stop_fault(&self, record: &Record, so_far: &Series) -> Option<u8> {
+        if !self.stop_fits(so_far.plan) {
+            Some(11)
+        } else if !self.stop_rest_is_zero(record) {
+            Some(12)
+        } else {
+            None
+        }
+    }
+
+    /// "11, stop in plan 4".
+    fn stop_fits(&self, plan: u8) -> bool {
+        plan != 4
+    }
+
+    /// "Evidence: as judge, with an empty part."
+    fn evidence_refusal(&self, refusal: Refusal) -> Refusal {
+        refusal
+    }
+
+    /// "Append, in this order: 14, record not 20 bytes; 13, fewer than 20 bytes after u, or u
+    /// beyond the buffer". Beyond the buffer there is no rest.
+    fn append_fault(&self, record: usize, rest: Option<usize>) -> Option<u8> {
+        if record != RECORD {
+            Some(14)
+        } else if rest.is_none_or(|rest| rest < RECORD) {
+            Some(13)
+        } else {
+            None
+        }
+    }
+
+    /// "1 to 12 for the sheet there, unless u = 0".
+    fn checks_sheet_there(&self, used: usize) -> bool {
+        used != 0
+    }
+
+    /// "On success only the 20 bytes at u change", and on a refusal none.
+    fn stays_written(&self, refused: bool) -> bool {
+        !refused
+    }
+
+    /// "Report: 15, output under 20 bytes, record 0; then as judge."
+    fn report_answer(
+        &self,
+        output: usize,
+        judged: Result<Judgement, Refusal>,
+    ) -> Result<Judgement, Refusal> {
+        if output < REPORT {
+            return Err(Refusal::of_no_record(15));
+        }
+        judged
+    }
+
+    // ---- The program `verdict`
+
+    /// "Line 1: verdict word (another, pass, fail, referred), engine, ground".
+    fn first_line(&self, word: &str, engine: u8, ground: Ground) -> String {
+        format!("{word} {engine} {}\n", ground as u8)
+    }
+
+    /// "Then a line for each declared pollutant", which has a limit.
+    fn has_line(&self, limit: u32) -> bool {
+        limit != 0
+    }
+
+    /// "Number, open/pass/fail, engine."
+    fn pollutant_line(&self, number: usize, word: &str, engine: u8) -> String {
+        format!("{number} {word} {engine}\n")
+    }
+
+    /// "A refusal prints `refused`, number, record."
+    fn refused_line(&self, Refusal { number, record }: Refusal) -> String {
+        format!("refused {number} {record}\n")
+    }
+}
+
+/// "A x t x 65,536", or "the same with B".
+fn scaled_deviation(row: &Row, number: i64) -> i128 {
+    i128::from(number) * i128::from(row.deviation) * 65_536
+}
+
+fn all_zero(bytes: &[u8]) -> bool {
+    bytes.iter().all(|&byte| byte == 0)
+}

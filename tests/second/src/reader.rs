@@ -1,0 +1,83 @@
+//! "A sheet under reading is the lent bytes and the number of the next record."
+
+use crate::check::{Record, ENGINE, POLLUTANT, STOP};
+use crate::document::Document;
+
+/// Any bytes under reading, from record 0 on.
+pub struct Reader<'a, D: Document + ?Sized> {
+    document: &'a D,
+    sheet: &'a [u8],
+    next: usize,
+}
+
+/// What the next record is, by its kind; `End` behind the last whole record.
+#[derive(Clone, Copy, Debug, PartialEq, Eq)]
+pub enum Step {
+    Pollutant {
+        number: u8,
+        plan: u8,
+        limit: u32,
+        deviation: u32,
+    },
+    Engine {
+        cause: u16,
+        measurements: [u32; 4],
+    },
+    Stop,
+    Other {
+        kind: u8,
+    },
+    End,
+}
+
+impl<'a, D: Document + ?Sized> Reader<'a, D> {
+    pub fn new(document: &'a D, sheet: &'a [u8]) -> Self {
+        Reader {
+            document,
+            sheet,
+            next: 0,
+        }
+    }
+
+    /// On to the record behind the next, or nowhere from the end.
+    pub fn move_on(&mut self) {
+        if self.record(self.next).is_some() {
+            self.next += 1;
+        }
+    }
+
+    pub fn step(&self) -> Step {
+        match self.record(self.next) {
+            Some(record) => self.step_of(&record),
+            None => Step::End,
+        }
+    }
+
+    /// How many whole records are left, the next among them.
+    pub fn left(&self) -> usize {
+        (self.next..)
+            .take_while(|&number| self.record(number).is_some())
+            .count()
+    }
+
+    fn record(&self, number: usize) -> Option<Record> {
+        self.document.record_at(self.sheet, number)
+    }
+
+    fn step_of(&self, record: &Record) -> Step {
+        match record[0] {
+            POLLUTANT => Step::Pollutant {
+                number: record[1],
+                plan: record[2],
+                limit: self.document.limit(record),
+                deviation: self.document.deviation(record),
+            },
+            ENGINE => Step::Engine {
+                cause: self.document.cause(record),
+                measurements: [0, 1, 2, 3].map(|p| self.document.measurement(record, p)),
+            },
+            STOP => Step::Stop,
+            kind => Step::Other { kind },
+        }
+    }
+}

@@ -1,0 +1,60 @@
+//! The wrong readings: each is document 01 with one sentence misread, and each has to be noticed
+//! by the comparison.
+//!
+//! Two wrong readings are missing because no sheet can tell them from the right ones.
+//! "≥ in plan 1" differs only where T x 693,147,181 = A x t x 65,536; 693,147,181 is a prime
+//! above every A and every t, and no A is zero, so the two sides are never equal. And in the
+//! logarithm Q is a square, which 2^63 is not, so "Q > 2^63" is the same as "Q >= 2^63".
+
+mod families;
+mod probe;
+mod report;
+
+use crate::document::Document;
+use families::Number;
+
+pub use families::{causes, decision_numbers, logarithms, variances};
+pub use probe::{logarithm_evidence_and_lines, reader};
+pub use report::report_and_append;
+
+/// One wrong reading.
+pub struct Wrong {
+    pub description: String,
+    pub reading: Box<dyn Document>,
+}
+
+impl Wrong {
+    fn new(description: impl Into<String>, reading: impl Document + 'static) -> Self {
+        Wrong {
+            description: description.into(),
+            reading: Box::new(reading),
+        }
+    }
+}
+
+/// Wrong readings of the same kind.
+pub struct Family {
+    pub title: String,
+    pub readings: Vec<Wrong>,
+}
+
+impl Family {
+    fn new(title: impl Into<String>, readings: impl IntoIterator<Item = Wrong>) -> Self {
+        Family {
+            title: title.into(),
+            readings: readings.into_iter().collect(),
+        }
+    }
+}
+
+/// Document 01 with this method for its own.
+macro_rules! wrong {
+    ($description:literal, $($method:tt)*) => {{
+        struct Reading;
+        impl Document for Reading {
+            $($method)*
+        }
+        Wrong::new($description, Reading)
+    }};
+}
+use wrong;
