@@ -21,8 +21,9 @@ extern "C" {
 
 /// How many different sheets each row is timed on.
 const SHEETS: usize = 64;
-const BY_SECOND: f64 = 1.0;
-const BY_DOUBLES: f64 = 2.5;
+const BY_SECOND: f64 = 0.7;
+/// The same of the check alone and of append alone.
+const PART_BY_SECOND: f64 = 1.0;
 const GROWTH: f64 = 4.5;
 
 type Report = fn(&[u8], &mut [u8; REPORT]) -> u32;
@@ -96,29 +97,51 @@ fn reporting(report: Report, sheets: &[Vec<u8>]) -> impl FnMut() + '_ {
     }
 }
 
+/// The goals by doubles: plan 3 takes no logarithm, which is most of the work in the other plans.
+fn full_by_doubles(plan: u8) -> f64 {
+    if plan == 3 {
+        0.6
+    } else {
+        1.6
+    }
+}
+
+fn typical_by_doubles(plan: u8) -> f64 {
+    if plan == 3 {
+        0.55
+    } else {
+        0.95
+    }
+}
+
 fn print_reports() {
     println!("report, time of the library by that of the second implementation, and of doubles:");
     for plan in 1..=4 {
         let sheets = sheets::full(plan, Document01.last_row(plan), SHEETS);
-        print_report(&format!("plan {plan}, full sheets"), &sheets, true);
+        print_report(
+            &format!("plan {plan}, full sheets"),
+            &sheets,
+            full_by_doubles(plan),
+        );
     }
     for plan in 1..=4 {
         let sheets = sheets::typical(plan, SHEETS);
-        print_report(&format!("plan {plan}, typical sheets"), &sheets, false);
+        print_report(
+            &format!("plan {plan}, typical sheets"),
+            &sheets,
+            typical_by_doubles(plan),
+        );
     }
 }
 
-fn print_report(title: &str, sheets: &[Vec<u8>], full: bool) {
+fn print_report(title: &str, sheets: &[Vec<u8>], goal_by_doubles: f64) {
     let times = time(&mut [
         &mut reporting(library_report, sheets),
         &mut reporting(second_report, sheets),
         &mut reporting(doubles, sheets),
     ]);
     let by_second = against(times.ratio(0, 1), BY_SECOND);
-    let by_doubles = match full {
-        true => against(times.ratio(0, 2), BY_DOUBLES),
-        false => format!("{:5.2}", times.ratio(0, 2)),
-    };
+    let by_doubles = against(times.ratio(0, 2), goal_by_doubles);
     let nanoseconds = times.seconds(0) / sheets.len() as f64 * 1e9;
     println!("  {title:<24} second {by_second:<22} doubles {by_doubles:<24} {nanoseconds:6.0} ns");
 }
@@ -149,7 +172,7 @@ fn print_check() {
     ]);
     let rate = sheets[0].len() as f64 / times.seconds(0) / 1e6;
     println!("check, 740 bytes refused at the last record, time of the library:");
-    let by_second = against(times.ratio(0, 1), BY_SECOND);
+    let by_second = against(times.ratio(0, 1), PART_BY_SECOND);
     let by_doubles = times.ratio(0, 2);
     println!("  by the second {by_second}, by doubles' check {by_doubles:5.2}; {rate:.0} megabytes a second");
 }
@@ -172,7 +195,7 @@ fn print_append() {
         &mut appending(second_append),
     ]);
     println!("append of the 32nd engine, time of the library:");
-    println!("  by the second {}", against(times.ratio(0, 1), BY_SECOND));
+    println!("  by the second {}", against(times.ratio(0, 1), PART_BY_SECOND));
 }
 
 /// Everything that report and append are timed on, once.

@@ -8,7 +8,7 @@ use lib.Dec.{leb, eqb}
 use borrow.Author.Tests.{eqb-true, ne-eqb, not-false, leb-true}
 use Rattle.rules.specs.Tools.{those, within}
 use Rattle.rules.specs.Sheet.{Record, Pollutant, kind, cause, ofKind, engines, planNumber, declared, gross}
-use Rattle.rules.specs.Refusals.{misplaced, badCause}
+use Rattle.rules.specs.Refusals.{misplaced, badCause, greatestCause}
 use Rattle.arithmetic.proofs.Booleans.{never, and-right, and-true}
 use Rattle.arithmetic.proofs.Lists.{any-last}
 use Rattle.accepted.proofs.Faultless.{Clean, Faultless, faultless, isOther, ofKind-append, no-pollutants}
@@ -24,9 +24,9 @@ cause-fine : (n : ℕ) (ps : List Pollutant) (r : Record) → badCause n ps r �
 unfolding badCause
 cause-fine n ps r e = cases (eqb n 4 && gross ps r) e
   where
-    cases : (b : Bool) → cond b (not (within 1 65534 (cause r))) (not (eqb (cause r) 0)) ≡ false → b ≡ not (eqb (cause r) 0)
+    cases : (b : Bool) → cond b (not (within 1 greatestCause (cause r))) (not (eqb (cause r) 0)) ≡ false → b ≡ not (eqb (cause r) 0)
     cases true f =
-        let l = leb-true 1 (cause r) (and-true (leb 1 (cause r)) (leb (cause r) 65534) (not-false (within 1 65534 (cause r)) f) .0) in
+        let l = leb-true 1 (cause r) (and-true (leb 1 (cause r)) (leb (cause r) greatestCause) (not-false (within 1 greatestCause (cause r)) f) .0) in
         rw (ne-eqb (cause r) 0 (λ z. omega arith)) refl
     cases false f = sym f
 
@@ -35,7 +35,7 @@ pub declared-append : (rs ts : List Record) → ofKind 1 ts ≡ [] → declared 
 unfolding declared
 declared-append rs ts e = rw (ofKind-append 1 rs ts, e, append-nil) refl
 
-plan-append : (before ts : List Record) (r : Record) → eqb (kind r) 1 ≡ false → misplaced before r ≡ false → planNumber (before ++ ts) ≡ planNumber before
+pub plan-append : (before ts : List Record) (r : Record) → eqb (kind r) 1 ≡ false → misplaced before r ≡ false → planNumber (before ++ ts) ≡ planNumber before
 unfolding planNumber misplaced
 plan-append [] ts r e f = let z : true ≡ false = rw e at f in never z
 plan-append (b ∷ bs) ts r e f = refl

@@ -6,7 +6,7 @@ use mathlib.Core.Bool.{Bool, true, false, not, _&&_, _||_, cond}
 use mathlib.Core.List.{List, [], _∷_, _++_, append-assoc, append-nil}
 use lib.Dec.{eqb, leb, ltb}
 use lib.ListN.{length}
-use borrow.Author.Tests.{eqb-true, not-false, ne-eqb, leb-true}
+use borrow.Author.Tests.{eqb-true, eqb-false, not-false, ne-eqb, leb-true, ltb-false}
 use Rattle.rules.specs.Tools.{any, within}
 use Rattle.rules.specs.Sheet.{Record, size, most, records, kind, ofKind, planNumber, declared, stopped}
 use Rattle.rules.specs.Refusals.{misplaced, badNumber, badPlan, badLimit, badDeviation, badMeasurement, badCause, tooMany, Fault, fault, first, faults, faultOf, Check, accepted, refused, checkFrom, badLength, check}
@@ -43,22 +43,32 @@ unfolding checkFrom
 check-clean w before [] ts c = rw append-nil refl
 check-clean w before (r ∷ rs) ts c = rw (c .0) (check-clean w (before ++ (r ∷ [])) rs ts (c .1) ∙ rw append-assoc refl)
 
--- what the check of bytes says: whole records, and no fault
+-- what the check of bytes says: a record or more, none cut off, not more than there may be, and no fault
 pub record Sound (w : ℕ) (b : List ℕ) : Type 0 where
+  pub some : 1 ≤ length b
   pub whole : length b % size w ≡ 0
+  pub longest : length b ≤ most w * size w
   pub clean : Clean w [] (records w b)
 
 pub cond-accepted : (t : Bool) (c : Check) → cond t (refused 1 0) c ≡ accepted → (t ≡ false) × (c ≡ accepted)
 cond-accepted true c e = let z : true ≡ false = cc in never z
 cond-accepted false c e = (refl, e)
 
+-- "1, no bytes, a length not a multiple of 20, or over 740 bytes"
+pub length-fine : (w n : ℕ) → badLength w n ≡ false → (1 ≤ n) × ((n % size w ≡ 0) × (n ≤ most w * size w))
+unfolding badLength
+length-fine w n e =
+    let p = or-false (eqb n 0 || not (eqb (n % size w) 0)) (ltb (most w * size w) n) e in
+    let q = or-false (eqb n 0) (not (eqb (n % size w) 0)) (p .0) in
+    let d = eqb-false n 0 (q .0) in
+    (omega arith, (eqb-true (n % size w) 0 (not-false (eqb (n % size w) 0) (q .1)), ltb-false (most w * size w) n (p .1)))
+
 pub sound : (w : ℕ) (b : List ℕ) → check w b ≡ accepted → Sound w b
-unfolding check badLength
+unfolding check
 sound w b e =
     let p = cond-accepted (badLength w (length b)) (checkFrom w [] (records w b)) e in
-    let l = or-false (eqb (length b) 0 || not (eqb (length b % size w) 0)) (ltb (most w * size w) (length b)) (p .0) in
-    let z = or-false (eqb (length b) 0) (not (eqb (length b % size w) 0)) (l .0) in
-    record { whole = eqb-true (length b % size w) 0 (not-false (eqb (length b % size w) 0) (z .1)); clean = clean-of w [] (records w b) (p .1) }
+    let l = length-fine w (length b) (p .0) in
+    record { some = l .0; whole = l .1 .0; longest = l .1 .1; clean = clean-of w [] (records w b) (p .1) }
 
 -- ---- the single faults: the one place that knows their order
 

@@ -4,3 +4,4 @@ pub mod Engines
 pub mod ByNumber
 pub mod Causes
 pub mod Ranges
+pub mod Sheets

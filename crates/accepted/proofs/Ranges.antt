@@ -18,7 +18,8 @@ use Rattle.accepted.proofs.Faultless.{Clean, faultless, isOther, no-pol
 use Rattle.accepted.proofs.ByNumber.{InOrder, in-order}
 use Rattle.accepted.proofs.Causes.{declared-append}
 
-in-range : (lo hi x : ℕ) → not (within lo hi x) ≡ false → (lo ≤ x) × (x ≤ hi)
+-- a number that is not outside a range
+pub in-range : (lo hi x : ℕ) → not (within lo hi x) ≡ false → (lo ≤ x) × (x ≤ hi)
 in-range lo hi x e =
     let t = and-true (leb lo x) (leb x hi) (not-false (within lo hi x) e) in
     (leb-true lo x (t .0), leb-true x hi (t .1))

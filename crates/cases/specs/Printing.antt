@@ -25,5 +25,5 @@ printed-lines : map (lines.printed pollutants squarings) sheets
     ≡ (112 ∷ 97 ∷ 115 ∷ 115 ∷ 32 ∷ 52 ∷ 32 ∷ 49 ∷ 10 ∷ 52 ∷ 32 ∷ 112 ∷ 97 ∷ 115 ∷ 115 ∷ 32 ∷ 52 ∷ 10 ∷ [])
     ∷ (114 ∷ 101 ∷ 102 ∷ 117 ∷ 115 ∷ 101 ∷ 100 ∷ 32 ∷ 49 ∷ 48 ∷ 32 ∷ 50 ∷ 48 ∷ 10 ∷ [])
     ∷ []
-unfolding sheets cut records kind number plan limit deviation cause measurement ofKind planNumber pollutantOf declared declares planOf decide attributesPasses attributesFails rowPasses rowFails row beforeRow look settle unlooked after pairs judgeRecords misplaced badNumber badPlan badLimit badDeviation badMeasurement badCause tooMany nonzero unused faults faultOf checkFrom badLength check judge lines.digits lines.decimal lines.printed
+unfolding sheets cut records kind number plan limit deviation cause measurement ofKind planNumber pollutantOf declared declares planOf decide attributesPasses attributesFails rowPasses rowFails row beforeRow look settle unlooked after pairs judgeRecords misplaced badNumber badPlan badLimit badDeviation badMeasurement badCause tooMany nonzero unused faults faultOf checkFrom badLength check judge lines.lastDigits lines.decimal lines.printed
 printed-lines = refl

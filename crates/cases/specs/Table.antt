@@ -5,7 +5,7 @@ use mathlib.Core.Path.{_≡_, refl}
 use mathlib.Core.List.{List, [], _∷_, _++_, map}
 use lib.ListN.{replicate}
 use Rattle.rules.specs.Tools.{total}
-use Rattle.rules.specs.Logarithm.{squarings, digits, bits, logarithm, g}
+use Rattle.rules.specs.Logarithm.{squarings, binaryDigits, bits, logarithm, g}
 use Rattle.rules.specs.Sheet.{pollutants, cut, records, kind, number, plan, limit, deviation, cause, measurement, ofKind, planNumber, declared, declares, gross}
 use Rattle.rules.specs.Sheet.{pollutant as pollutantOf}
 use Rattle.rules.specs.Plans.{planOf, decide, knownPasses, knownFails, atMostRoot, atLeastRoot, unknownNumbers, inServiceNumbers, rootPasses, rootFails, attributesPasses, attributesFails, rowPasses, rowFails, row}
@@ -16,7 +16,7 @@ use Rattle.cases.specs.Bytes.{pollutant, engine, measured, stop, times}
 
 -- * "g(1) = 0, g(2) = 65536, g(3) = 103872, g(1000) = 653117"; g is 0 outside its range
 logarithms : map (g squarings) (1 ∷ 2 ∷ 3 ∷ 1000 ∷ 0 ∷ 10000000 ∷ []) ≡ 0 ∷ 65536 ∷ 103872 ∷ 653117 ∷ 0 ∷ 0 ∷ []
-unfolding g logarithm bits digits
+unfolding g logarithm bits binaryDigits
 logarithms = refl
 
 -- a sheet and what judging answers for it
@@ -86,5 +86,5 @@ table =
     ∷ []
 
 table-holds : map (λ c. judge pollutants squarings (c .sheet)) table ≡ map (λ c. c .answer) table
-unfolding table total digits bits logarithm g cut records kind number plan limit deviation cause measurement ofKind planNumber pollutantOf declared declares gross planOf decide knownPasses knownFails atMostRoot atLeastRoot unknownNumbers inServiceNumbers rootPasses rootFails attributesPasses attributesFails rowPasses rowFails row inServiceBefore beforeRow look settle unlooked after pairs judgeRecords misplaced badNumber badPlan badLimit badDeviation badMeasurement badCause tooMany nonzero unused faults faultOf checkFrom badLength check judge
+unfolding table total binaryDigits bits logarithm g cut records kind number plan limit deviation cause measurement ofKind planNumber pollutantOf declared declares gross planOf decide knownPasses knownFails atMostRoot atLeastRoot unknownNumbers inServiceNumbers rootPasses rootFails attributesPasses attributesFails rowPasses rowFails row inServiceBefore beforeRow look settle unlooked after pairs judgeRecords misplaced badNumber badPlan badLimit badDeviation badMeasurement badCause tooMany nonzero unused faults faultOf checkFrom badLength check judge
 table-holds = refl

@@ -3,7 +3,6 @@ ghost use lib.ListN.{length};
 ghost use Rattle.lines.specs.Writing.{Kept};
 ghost use Rattle.command.specs.Input.{Whole};
 use explaining::explain;
-use faults::Sheet;
 use libc::STDERR_FILENO;
 use libc::STDIN_FILENO;
 use libc::STDOUT_FILENO;
@@ -14,7 +13,7 @@ use transfers::read_full;
 use transfers::write_full;
 
 // A sheet leaves a byte free. An input that leaves none is longer than any sheet, and is refused whatever follows.
-const ROOM: usize = Sheet::LONGEST + 1;
+const ROOM: usize = record::LONGEST + 1;
 
 // What went wrong, as errno has it, on standard error.
 fn fail(what: &[u8]) {

@@ -9,7 +9,8 @@ use Rattle.rules.specs.Logarithm.{squarings}
 use Rattle.rules.specs.Sheet.{pollutants, records, planNumber}
 use Rattle.rules.specs.Plans.{lastRow}
 use Rattle.rules.specs.Operations.{judge}
-use Rattle.rules.specs.Demands.{Accepted, Decided, PassesAt, FailsAt, PassesBy, FailsBy, Begins, enginesOf, planOfSheet, Alike, NoneHigher}
+use Rattle.rules.specs.Demands.{Accepted, Decided, PassesAt, FailsAt, PassesBy, FailsBy, Begins, enginesOf, planOfSheet}
+use Rattle.rules.specs.Demands.{Alike, NoneHigher}
 use Rattle.demands.proofs.Kept.{sheet-kept}
 use Rattle.demands.proofs.Ends.{sheet-ends}
 use Rattle.demands.proofs.Lowering.{sheet-passes, sheet-fails}

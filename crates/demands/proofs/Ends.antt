@@ -8,11 +8,16 @@ use lib.ListN.{length, take}
 use borrow.Author.Tests.{eq-eqb}
 use Rattle.rules.specs.Tools.{any, all, those}
 use Rattle.rules.specs.Sheet.{Record, Pollutant, records, cause, gross, engines, stopped, measurement}
-use Rattle.rules.specs.Plans.{Plan, knownDeviation, unknownDeviation, attributes, inService, lastRow, Row, pass, fail, undecided, decide, rowPasses, row}
-use Rattle.rules.specs.Series.{Decision, isOpen, passedAt, failedAt, Standing, Series, ongoing, passed, failed, referred, Before, early, equalCause, referral, leftOpen, statistics, repeats, inServiceBefore, beforeRow, lookedAt, look, hasFailed, hasPassed, settleBy, settle, rowBy, walk, after, judgeRecords}
+use Rattle.rules.specs.Plans.{Plan, knownDeviation, unknownDeviation, attributes, inService, lastRow, Row, pass, fail}
+use Rattle.rules.specs.Plans.{undecided, decide, rowPasses, row}
+use Rattle.rules.specs.Series.{Decision, isOpen, passedAt, failedAt, Standing, Series, ongoing, passed, failed}
+use Rattle.rules.specs.Series.{referred, Before, early, equalCause, referral, leftOpen, statistics, repeats}
+use Rattle.rules.specs.Series.{inServiceBefore, beforeRow, lookedAt, look, hasFailed, hasPassed, settleBy, settle}
+use Rattle.rules.specs.Series.{rowBy, walk, after, judgeRecords}
 use Rattle.rules.specs.Demands.{Accepted, Decided, enginesOf, planOfSheet}
 use Rattle.arithmetic.proofs.Booleans.{or-false, never, by-test}
-use Rattle.demands.proofs.Judged.{seriesOf, Ended, ended-final, judged, final-decided}
+use Rattle.answers.proofs.Answers.{seriesOf}
+use Rattle.demands.proofs.Judged.{Ended, ended-final, judged, final-decided}
 
 -- ---- "In the last row, what doesn't pass fails."
 

@@ -4,31 +4,22 @@ use native.Mathlib.Omega.{arith}
 use mathlib.Core.Path.{_≡_, refl}
 use mathlib.Core.Bool.{Bool, false}
 use mathlib.Core.List.{List}
-use lib.ListN.{length}
-use Rattle.rules.specs.Sheet.{Record, records, engines, planNumber, declared}
-use Rattle.rules.specs.Plans.{planOf}
-use Rattle.rules.specs.Series.{Series, ongoing, passed, failed, referred, after, Pair, Answer, refusal, judgement, answer, judgeRecords}
-use Rattle.rules.specs.Refusals.{Check, accepted, refused, check}
-use Rattle.rules.specs.Operations.{judgeBy, judge}
+use Rattle.rules.specs.Sheet.{records}
+use Rattle.rules.specs.Series.{Series, ongoing, passed, failed, referred, Answer, refusal, judgement, answer, judgeRecords}
+use Rattle.rules.specs.Refusals.{accepted, check}
+use Rattle.rules.specs.Operations.{judge}
 use Rattle.rules.specs.Demands.{Accepted, Decided}
 use Rattle.accepted.proofs.Faultless.{Sound, sound}
+use Rattle.answers.proofs.Answers.{judge-accepted, judgement-accepted}
 
--- ---- a series
-
--- the series of a sheet's records, after all of its engines
-abbrev pub seriesOf : (q : ℕ) → List Record → Series
-seriesOf q rs = after (planOf (planNumber rs)) (declared rs) q (engines rs) (length (engines rs))
-
--- it goes on no more
+-- a series that goes on no more
 abbrev pub Ended : Series → Type 0
 Ended (ongoing ss) = ⊥
 Ended (passed n ss) = Unit {0}
 Ended (failed n ground ss) = Unit {0}
 Ended (referred n ss) = Unit {0}
 
--- ---- an answer
-
--- its verdict is not another
+-- an answer whose verdict is not another
 abbrev pub Final : Answer → Type 0
 Final (refusal number place) = ⊥
 Final (judgement v n ground pairs) = v ≡ 0 → ⊥
@@ -48,22 +39,15 @@ module _ (w : ℕ) where
 
 -- ---- a sheet
 
-unrefused : (w q : ℕ) (c : Check) (rs : List Record) (v n ground : ℕ) (pairs : List Pair)
-    → judgeBy w q c rs ≡ judgement v n ground pairs → c ≡ accepted
-unrefused w q accepted rs v n ground pairs e = refl
-unrefused w q (refused k i) rs v n ground pairs e = let z : _≡_ {A = ℕ} 0 1 = cc in absurd (omega arith)
-
 module _ (w q : ℕ) (b : List ℕ) where
   checked : Accepted w q b → check w b ≡ accepted
-  unfolding judge
-  checked a = unrefused w q (check w b) (records w b) (a .0) (a .1) (a .2 .0) (a .2 .1) (a .2 .2)
+  checked a = judgement-accepted w q b (a .2 .2)
 
   pub sheet-sound : Accepted w q b → Sound w b
   sheet-sound a = sound w b (checked a)
 
   pub judged : Accepted w q b → judge w q b ≡ judgeRecords w q (records w b)
-  unfolding judge
-  judged a = rw (checked a) refl
+  judged a = judge-accepted w q b (checked a)
 
   pub decided-accepted : Decided w q b → Accepted w q b
   decided-accepted d = (d .0, d .1, d .3)

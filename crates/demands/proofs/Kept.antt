@@ -17,7 +17,8 @@ use Rattle.arithmetic.proofs.Booleans.{never, by-test}
 use Rattle.accepted.proofs.Records.{records-append}
 use Rattle.accepted.proofs.Faultless.{Clean, clean-append, isOther, ofKind-append, no-pollutants, nothing-after, no-engines}
 use Rattle.accepted.proofs.Causes.{declared-append}
-use Rattle.demands.proofs.Judged.{seriesOf, Ended, Final, final-ended, sheet-sound, judged, decided-accepted, decided-final}
+use Rattle.answers.proofs.Answers.{seriesOf}
+use Rattle.demands.proofs.Judged.{Ended, Final, final-ended, sheet-sound, judged, decided-accepted, decided-final}
 
 -- ---- a series that has ended stays as it is, whatever engines follow
 

@@ -5,4 +5,5 @@ pub mod Rows
 pub mod Lower
 pub mod Alike
 pub mod Lowering
+pub mod Demand1
 pub mod Demand3

@@ -11,7 +11,9 @@ use borrow.Author.Tests.{eq-eqb}
 use Rattle.rules.specs.Tools.{any, all}
 use Rattle.rules.specs.Sheet.{Record, Pollutant, measurement, declares}
 use Rattle.rules.specs.Plans.{Plan, Row, pass, fail, undecided}
-use Rattle.rules.specs.Series.{Decision, isOpen, passedAt, failedAt, Standing, Series, ongoing, passed, failed, referred, early, statistics, beforeRow, lookedAt, look, hasFailed, hasPassed, settleBy, settle, rowBy, walk, unlooked, after, Pair, judgement, pairs, answer}
+use Rattle.rules.specs.Series.{Decision, isOpen, passedAt, failedAt, Standing, Series, ongoing, passed, failed}
+use Rattle.rules.specs.Series.{referred, early, statistics, beforeRow, lookedAt, look, hasFailed, hasPassed, settleBy}
+use Rattle.rules.specs.Series.{settle, rowBy, walk, unlooked, after, Pair, judgement, pairs, answer}
 use Rattle.rules.specs.Demands.{Says, SaysBy}
 use Rattle.arithmetic.proofs.Booleans.{never, or-right, by-test}
 use Rattle.arithmetic.proofs.Pairs.{Pairs, none, more, pairs-swap, pairs-take, pairs-map, any-follows, all-follows}

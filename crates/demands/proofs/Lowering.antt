@@ -14,7 +14,8 @@ use Rattle.rules.specs.Demands.{Says, SaysBy, Accepted, PassesAt, FailsAt, Pass
 use Rattle.arithmetic.proofs.Pairs.{Pairs, none, more, pairs-length, pairs-those, same-map, same-any}
 use Rattle.accepted.proofs.Faultless.{Clean}
 use Rattle.accepted.proofs.Ranges.{InRange, number-in, measurements-in}
-use Rattle.demands.proofs.Judged.{seriesOf, sheet-sound, judged}
+use Rattle.answers.proofs.Answers.{seriesOf}
+use Rattle.demands.proofs.Judged.{sheet-sound, judged}
 use Rattle.demands.proofs.Rows.{Falling, known-falls, attributes-fall}
 use Rattle.demands.proofs.Lower.{LowerAt, SeriesLe, after-lower, passes-by, fails-by}
 use Rattle.demands.proofs.Alike.{Same, records-same, same-kind, same-plan, same-pollutant, lower-measurement}

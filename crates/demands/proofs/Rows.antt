@@ -12,11 +12,14 @@ use lib.IntN.{ℤ, pos, negℤ, _*ℤ_}
 use lib.Signed.{ltZ, leZ}
 use Rattle.rules.specs.Tools.{total}
 use Rattle.rules.specs.Logarithm.{greatest, g, D}
-use Rattle.rules.specs.Plans.{Plan, knownDeviation, attributes, Row, pass, fail, undecided, decide, knownA, knownB, knownPasses, knownFails, countOver, attributesPasses, attributesFails, rowPasses, rowFails, row}
+use Rattle.rules.specs.Plans.{Plan, knownDeviation, attributes, Row, pass, fail, undecided, decide, knownA, knownB, logOfTwo}
+use Rattle.rules.specs.Plans.{knownPasses, knownFails, countOver, attributesPasses, attributesFails, rowPasses}
+use Rattle.rules.specs.Plans.{rowFails, row}
 use Rattle.logarithm.proofs.Rising.{rising}
 use Rattle.arithmetic.proofs.Booleans.{never, and-follows}
 use Rattle.arithmetic.proofs.Order.{ltb-follows, leb-follows}
-use Rattle.arithmetic.proofs.Integers.{Diff, plus, minus, diff-move, diff-of, diff-pos, diff-neg, diff-add, diff-minus, diff-mul, lt-fact, lt-test, le-fact, le-test}
+use Rattle.arithmetic.proofs.Integers.{Diff, plus, minus, diff-move, diff-of, diff-pos, diff-neg, diff-add, diff-minus}
+use Rattle.arithmetic.proofs.Integers.{diff-mul, lt-fact, lt-test, le-fact, le-test}
 use Rattle.arithmetic.proofs.Pairs.{Pairs, none, more}
 
 -- the order of rows: pass, then undecided, then fail
@@ -117,8 +120,8 @@ unfolding row rowPasses rowFails knownPasses knownFails
 row-lower {plan} {xs} {ys} q n L t known-falls h =
     let e = D-lower q L h in
     decide-lower _ _ _ _ _
-    (above-lower (D q L ys) (D q L xs) e (knownA n *ℤ pos t *ℤ pos (2 ^ q)) 693147181)
-    (below-lower (D q L ys) (D q L xs) e (knownB n *ℤ pos t *ℤ pos (2 ^ q)) 693147181)
+    (above-lower (D q L ys) (D q L xs) e (knownA n *ℤ pos t *ℤ pos (2 ^ q)) logOfTwo)
+    (below-lower (D q L ys) (D q L xs) e (knownB n *ℤ pos t *ℤ pos (2 ^ q)) logOfTwo)
 row-lower {plan} {xs} {ys} q n L t attributes-fall h =
     let e = count-lower L h in
     decide-lower _ _ _ _ _ (attributes-pass n (countOver L ys) (countOver L xs) e) (attributes-fail n (countOver L ys) (countOver L xs) e)

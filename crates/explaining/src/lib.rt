@@ -4,12 +4,12 @@ ghost use Prim.Native.Nat.{suc, _≤_};
 ghost use Rattle.lines.specs.Writing.{withBytes, Adds, Written};
 ghost use Rattle.explaining.specs.Sentences.{sentence};
 ghost use Rattle.explaining.specs.Explanation.{isEngine, enginesIn, name, place, refused, explained};
+use checking::Checked;
+use checking::Refusal;
+use checking::check;
 use lines::Lines;
 use reading::Step;
 use reading::turn_at;
-use sheet::Checked;
-use sheet::Refusal;
-use sheet::check;
 
 // The refusal of a sheet's length, which names no record.
 const LENGTH: u8 = 1;

@@ -10,19 +10,20 @@ use Rattle.rules.specs.Tools.{any, within}
 use Rattle.rules.specs.Logarithm.{greatest}
 use Rattle.rules.specs.Sheet.{Record, Pollutant, pollutants, measurement, numbers, declares, gross}
 use Rattle.rules.specs.Refusals.{newest, badValue, badMeasurement}
-use Rattle.accepted.specs.ByNumber.{limitOf, deviationOf}
+use Rattle.accepted.specs.ByNumber.{limitOf}
+use Rattle.accepted.proofs.ByNumber.{newest-snoc, in-numbers}
 use Rattle.arithmetic.proofs.Booleans.{or-same, or-true, or-false}
 use Rattle.arithmetic.proofs.Lists.{any-snoc, any-update}
 use Rattle.faults.specs.declared.Quantities.{Quantities}
 use Rattle.faults.specs.State.{quantity, quantitiesWith}
 use Rattle.faults.specs.Faults.{badValueBy, badMeasurementBy, exceeds, grossBy}
 
-pub record Declared (ps : List Pollutant) (last : ℕ) (limits deviations : Quantities) : Type 0 where
+-- the last number and the limits by number say of the declared pollutants what is asked of them
+pub record Declared (ps : List Pollutant) (last : ℕ) (limits : Quantities) : Type 0 where
   pub newestIs : newest ps ≡ last
   pub declaring : (p : ℕ) → declares ps p ≡ not (eqb (quantity limits p) 0)
   pub grossIs : (r : Record) → gross ps r ≡ grossBy limits r
   pub limitIs : (p : ℕ) → quantity limits p ≡ limitOf p ps
-  pub deviationIs : (p : ℕ) → quantity deviations p ≡ deviationOf p ps
   -- a later pollutant is not yet declared
   pub later : (p : ℕ) → last < p → quantity limits p ≡ 0
 
@@ -39,7 +40,7 @@ zero-quantity : (p : ℕ) → quantity zeros p ≡ 0
 unfolding quantity
 zero-quantity p = simp cond-same
 
-pub none : Declared [] 0 zeros zeros
+pub none : Declared [] 0 zeros
 unfolding declares gross grossBy exceeds
 none =
     record {
@@ -47,7 +48,6 @@ none =
       declaring = λ p. rw (zero-quantity p) refl;
       grossIs = λ r. refl;
       limitIs = zero-quantity;
-      deviationIs = zero-quantity;
       later = λ p h. zero-quantity p;
     }
 
@@ -64,7 +64,7 @@ cond-not : (b x y : Bool) → cond (not b) x y ≡ cond b y x
 cond-not true x y = refl
 cond-not false x y = refl
 
-pub measurement-agrees : {ps : List Pollutant} {last : ℕ} {q d : Quantities} → Declared ps last q d → (r : Record)
+pub measurement-agrees : {ps : List Pollutant} {last : ℕ} {q : Quantities} → Declared ps last q → (r : Record)
     → badMeasurementBy q r ≡ badMeasurement pollutants ps r
 unfolding badMeasurement badMeasurementBy badValueBy quantity
 measurement-agrees {ps} {q = q} h r =
@@ -77,26 +77,18 @@ measurement-agrees {ps} {q = q} h r =
 
 -- ---- one pollutant more
 
-newest-snoc : (ps : List Pollutant) (c : Pollutant) → newest (ps ++ (c ∷ [])) ≡ c .number
-newest-snoc [] c = refl
-newest-snoc (a ∷ []) c = refl
-newest-snoc (a ∷ b ∷ ps) c = newest-snoc (b ∷ ps) c
-
--- limits and deviations alike: what is told of pollutant p
-module _ (p : ℕ) (told : Pollutant → ℕ) (of : List Pollutant → ℕ)
-    (more : (c : Pollutant) (ps : List Pollutant) → of (c ∷ ps) ≡ cond (eqb (c .number) p) (told c) (of ps)) where
-  of-snoc : (ps : List Pollutant) (c : Pollutant) → declares ps (c .number) ≡ false
-      → of (ps ++ (c ∷ [])) ≡ cond (eqb (c .number) p) (told c) (of ps)
-  unfolding declares
-  of-snoc [] c e = more c []
-  of-snoc (a ∷ ps) c e =
-      let f = or-false (eqb (a .number) (c .number)) (declares ps (c .number)) e in
-      rw (more a (ps ++ (c ∷ [])), of-snoc ps c (f .1), more a ps) (cases (eqb (c .number) p) refl (f .0))
-    where
-      cases : (b : Bool) → eqb (c .number) p ≡ b → eqb (a .number) (c .number) ≡ false
-          → cond (eqb (a .number) p) (told a) (cond b (told c) (of ps)) ≡ cond b (told c) (cond (eqb (a .number) p) (told a) (of ps))
-      cases true q f = rw (← eqb-true (c .number) p q, f) refl
-      cases false q f = refl
+limit-snoc : (p : ℕ) (ps : List Pollutant) (c : Pollutant) → declares ps (c .number) ≡ false
+    → limitOf p (ps ++ (c ∷ [])) ≡ cond (eqb (c .number) p) (c .limit) (limitOf p ps)
+unfolding declares
+limit-snoc p [] c e = refl
+limit-snoc p (a ∷ ps) c e =
+    let f = or-false (eqb (a .number) (c .number)) (declares ps (c .number)) e in
+    rw (limit-snoc p ps c (f .1)) (cases (eqb (c .number) p) refl (f .0))
+  where
+    cases : (b : Bool) → eqb (c .number) p ≡ b → eqb (a .number) (c .number) ≡ false
+        → cond (eqb (a .number) p) (a .limit) (cond b (c .limit) (limitOf p ps)) ≡ cond b (c .limit) (cond (eqb (a .number) p) (a .limit) (limitOf p ps))
+    cases true q f = rw (← eqb-true (c .number) p q, f) refl
+    cases false q f = refl
 
 module _ (n x : ℕ) (l : 1 ≤ n) (u : n ≤ 4) (q : Quantities) where
   quantity-with : (p : ℕ) → quantity (quantitiesWith q n x) p ≡ cond (eqb n p) x (quantity q p)
@@ -111,14 +103,6 @@ module _ (n x : ℕ) (l : 1 ≤ n) (u : n ≤ 4) (q : Quantities) where
       let other : (k : ℕ) → k ≤ 4 → eqb m k ≡ false = λ k b. ne-eqb m k (λ z. omega arith) in
       rw (other 1 (omega arith), other 2 (omega arith), other 3 (omega arith), other 4 (omega arith), ne-eqb n m (λ z. omega arith)) refl
 
-among : (n : ℕ) → 1 ≤ n → n ≤ 4 → any (λ p. eqb p n) (numbers pollutants) ≡ true
-among zero l u = absurd (omega arith)
-among (suc zero) l u = refl
-among (suc (suc zero)) l u = refl
-among (suc (suc (suc zero))) l u = refl
-among (suc (suc (suc (suc zero)))) l u = refl
-among (suc (suc (suc (suc (suc n))))) l u = absurd (omega arith)
-
 abbrev over : Quantities → Record → (p : ℕ) → Bool
 over q r p = exceeds (quantity q p) (measurement r p)
 
@@ -126,8 +110,17 @@ gross-each : (q : Quantities) (r : Record) → any (over q r) (numbers pollutant
 unfolding grossBy quantity
 gross-each q r = each (over q r 1) (over q r 2) (over q r 3) (over q r 4)
 
-module _ {ps : List Pollutant} {last : ℕ} {q d : Quantities} (h : Declared ps last q d) (c : Pollutant)
-    (l : 1 ≤ c .number) (u : c .number ≤ 4) (above : last < c .number) (limited : eqb (c .limit) 0 ≡ false) where
+module _ {ps : List Pollutant} {last : ℕ} {q : Quantities} (h : Declared ps last q) (c : Pollutant)
+    (rises : newest ps < c .number) (u : c .number ≤ pollutants) (m : 1 ≤ c .limit) where
+  l : 1 ≤ c .number
+  l = omega arith
+
+  above : last < c .number
+  above = let e = h .newestIs in omega arith
+
+  limited : eqb (c .limit) 0 ≡ false
+  limited = ne-eqb (c .limit) 0 (λ z. omega arith)
+
   undeclared : declares ps (c .number) ≡ false
   undeclared = h .declaring (c .number) ∙ rw (h .later (c .number) above) refl
 
@@ -165,19 +158,16 @@ module _ {ps : List Pollutant} {last : ℕ} {q d : Quantities} (h : Declared ps 
 
     gross-now : gross (ps ++ (c ∷ [])) r ≡ grossBy limitsNow r
     gross-now =
+        let among = in-numbers pollutants (c .number) l u in
         gross-more
-        ∙ (sym (any-update (over q r) (over limitsNow r) (c .number) over-before over-other (numbers pollutants) (among (c .number) l u))
-        ∙ gross-each limitsNow r)
+        ∙ (sym (any-update (over q r) (over limitsNow r) (c .number) over-before over-other (numbers pollutants) among) ∙ gross-each limitsNow r)
 
-  pub one-more : Declared (ps ++ (c ∷ [])) (c .number) limitsNow (quantitiesWith d (c .number) (c .deviation))
+  pub one-more : Declared (ps ++ (c ∷ [])) (c .number) limitsNow
   one-more =
       record {
         newestIs = newest-snoc ps c;
         declaring = declaring-now;
         grossIs = gross-now;
-        limitIs = λ p. limit-now p ∙ (rw (h .limitIs p) (sym (of-snoc p (λ a. a .limit) (limitOf p) (λ a ps. refl) ps c undeclared)));
-        deviationIs =
-            λ p. quantity-with (c .number) (c .deviation) l u d p
-            ∙ (rw (h .deviationIs p) (sym (of-snoc p (λ a. a .deviation) (deviationOf p) (λ a ps. refl) ps c undeclared)));
-        later = λ p m. rw (limit-now p, ne-eqb (c .number) p (λ z. omega arith)) (h .later p (omega arith));
+        limitIs = λ p. limit-now p ∙ (rw (h .limitIs p) (sym (limit-snoc p ps c undeclared)));
+        later = λ p g. rw (limit-now p, ne-eqb (c .number) p (λ z. omega arith)) (h .later p (omega arith));
       }

@@ -1,3 +1,4 @@
 pub mod Unused
+pub mod Limits
 pub mod Declared
 pub mod Agreement

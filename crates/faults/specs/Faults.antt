@@ -6,26 +6,25 @@ use lib.Dec.{leb, ltb, eqb}
 use Rattle.rules.specs.Tools.{within, byte, two, four}
 use Rattle.rules.specs.Logarithm.{greatest}
 use Rattle.rules.specs.Sheet.{Record, pollutants, kind, number, plan, cause, measurement}
-use Rattle.rules.specs.Plans.{planOf, lastRow}
-use Rattle.rules.specs.Refusals.{badLimit, badDeviation}
+use Rattle.rules.specs.Refusals.{badLimit, badDeviation, greatestCause}
+use Rattle.rules.specs.Plans.{planCount}
 use Rattle.faults.specs.declared.Quantities.{Quantities}
-use Rattle.faults.specs.declared.Sheet.{Sheet}
+use Rattle.faults.specs.declared.Summary.{Summary}
 
--- 2
-unfoldable pub badKind : Record → Bool
-badKind r = not (within 1 3 (kind r))
+-- 3, of an engine or a stop, and of a pollutant
+unfoldable pub firstOrAfterStop : Summary → Bool
+firstOrAfterStop s = eqb (s .kind) 0 || eqb (s .kind) 3
 
--- 3
-unfoldable pub misplacedBy : Sheet → Record → Bool
-misplacedBy s r = eqb (s .kind) 0 && not (eqb (kind r) 1) || eqb (kind r) 1 && ltb 1 (s .kind) || eqb (s .kind) 3
+unfoldable pub afterAnotherKind : Summary → Bool
+afterAnotherKind s = ltb 1 (s .kind)
 
 -- 4
-unfoldable pub badNumberBy : Sheet → Record → Bool
+unfoldable pub badNumberBy : Summary → Record → Bool
 badNumberBy s r = not (within 1 pollutants (number r)) || leb (number r) (s .number)
 
 -- 5
-unfoldable pub badPlanBy : Sheet → Record → Bool
-badPlanBy s r = not (within 1 4 (plan r)) || not (eqb (s .kind) 0) && not (eqb (plan r) (s .plan))
+unfoldable pub badPlanBy : Summary → Record → Bool
+badPlanBy s r = not (within 1 planCount (plan r)) || not (eqb (s .kind) 0) && not (eqb (plan r) (s .plan))
 
 -- 8: a limit of 0 stands for an undeclared pollutant
 unfoldable pub badValueBy : (limit x : ℕ) → Bool
@@ -50,14 +49,14 @@ grossBy limits r =
     || exceeds (limits .pm) (measurement r 4)
 
 unfoldable pub badCauseInService : (limits : Quantities) → Record → Bool
-badCauseInService limits r = cond (grossBy limits r) (not (within 1 65534 (cause r))) (not (eqb (cause r) 0))
+badCauseInService limits r = cond (grossBy limits r) (not (within 1 greatestCause (cause r))) (not (eqb (cause r) 0))
 
-unfoldable pub badCauseBy : Sheet → Record → Bool
+unfoldable pub badCauseBy : Summary → Record → Bool
 badCauseBy s r = cond (eqb (s .plan) 4) (badCauseInService (s .limits) r) (not (eqb (cause r) 0))
 
 -- 10
-unfoldable pub tooManyBy : Sheet → Bool
-tooManyBy s = leb (lastRow (planOf (s .plan))) (s .engines)
+unfoldable pub tooManyBy : Summary → Bool
+tooManyBy s = leb (s .«last_row») (s .engines)
 
 -- 12, of each kind: the bytes that must be zero, as numbers
 unfoldable pub pollutantUnused : Record → Bool
@@ -76,26 +75,32 @@ stopUnused r =
     || not (eqb (four r 16) 0)
 
 -- the lowest of those that a record of each kind can have
-unfoldable pub pollutantFault : Sheet → Record → ℕ
+unfoldable pub pollutantFault : Summary → Record → ℕ
 pollutantFault s r =
-    cond (badNumberBy s r) 4
+    cond (afterAnotherKind s) 3
+    (cond (badNumberBy s r) 4
     (cond (badPlanBy s r) 5
     (cond (badLimit r) 6
     (cond (badDeviation r) 7
-    (cond (pollutantUnused r) 12 0))))
+    (cond (pollutantUnused r) 12 0)))))
 
-unfoldable pub engineFault : Sheet → Record → ℕ
+unfoldable pub engineFault : Summary → Record → ℕ
 engineFault s r =
-    cond (badMeasurementBy (s .limits) r) 8
+    cond (firstOrAfterStop s) 3
+    (cond (badMeasurementBy (s .limits) r) 8
     (cond (badCauseBy s r) 9
     (cond (tooManyBy s) 10
-    (cond (engineUnused r) 12 0)))
+    (cond (engineUnused r) 12 0))))
 
-unfoldable pub stopFault : Sheet → Record → ℕ
-stopFault s r = cond (eqb (s .plan) 4) 11 (cond (stopUnused r) 12 0)
+unfoldable pub stopFault : Summary → Record → ℕ
+stopFault s r =
+    cond (firstOrAfterStop s) 3
+    (cond (eqb (s .plan) 4) 11
+    (cond (stopUnused r) 12 0))
 
-unfoldable pub faultBy : Sheet → Record → ℕ
+-- 2, of a record of another kind
+unfoldable pub faultBy : Summary → Record → ℕ
 faultBy s r =
-    cond (badKind r) 2
-    (cond (misplacedBy s r) 3
-    (cond (eqb (kind r) 1) (pollutantFault s r) (cond (eqb (kind r) 2) (engineFault s r) (stopFault s r))))
+    cond (eqb (kind r) 2) (engineFault s r)
+    (cond (eqb (kind r) 1) (pollutantFault s r)
+    (cond (eqb (kind r) 3) (stopFault s r) 2))

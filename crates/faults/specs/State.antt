@@ -1,10 +1,12 @@
 -- What the records before one say, as the program keeps it: a record at a time.
-use Prim.Native.Nat.{ℕ, _+_, _*_, _^_, _≤_, _<_}
+use Prim.Native.Nat.{ℕ, _+_, _≤_, _<_}
 use mathlib.Core.Bool.{cond}
 use lib.Dec.{eqb}
-use Rattle.rules.specs.Sheet.{Record, kind, number, plan, limit, deviation, recordSize}
+use Rattle.rules.specs.Logarithm.{greatest}
+use Rattle.rules.specs.Sheet.{Record, kind, number, plan, limit}
+use Rattle.rules.specs.Plans.{planOf, lastRow}
 use Rattle.faults.specs.declared.Quantities.{Quantities}
-use Rattle.faults.specs.declared.Sheet.{Sheet}
+use Rattle.faults.specs.declared.Summary.{Summary}
 
 -- the number for pollutant p, 0 where that is none of the four
 unfoldable pub quantity : Quantities → (p : ℕ) → ℕ
@@ -25,71 +27,70 @@ quantitiesWith q p x =
     }
 
 -- no record yet
-unfoldable pub nothing : Sheet
+unfoldable pub nothing : Summary
 nothing =
     record {
       kind = 0;
       plan = 0;
+      «last_row» = 0;
       number = 0;
       limits = record { co = 0; hc = 0; nox = 0; pm = 0 };
-      deviations = record { co = 0; hc = 0; nox = 0; pm = 0 };
-      pollutants = 0;
+      head = 0;
       engines = 0;
     }
 
-unfoldable pub withPollutant : Sheet → Record → Sheet
+unfoldable pub withPollutant : Summary → Record → Summary
 withPollutant s r =
     record {
       kind = 1;
       plan = plan r;
+      «last_row» = lastRow (planOf (plan r));
       number = number r;
       limits = quantitiesWith (s .limits) (number r) (limit r);
-      deviations = quantitiesWith (s .deviations) (number r) (deviation r);
-      pollutants = s .pollutants + 1;
+      head = s .head + 1;
       engines = s .engines;
     }
 
-unfoldable pub withEngine : Sheet → Sheet
+unfoldable pub withEngine : Summary → Summary
 withEngine s =
     record {
       kind = 2;
       plan = s .plan;
+      «last_row» = s .«last_row»;
       number = s .number;
       limits = s .limits;
-      deviations = s .deviations;
-      pollutants = s .pollutants;
+      head = s .head;
       engines = s .engines + 1;
     }
 
-unfoldable pub withStop : Sheet → Sheet
+unfoldable pub withStop : Summary → Summary
 withStop s =
     record {
       kind = 3;
       plan = s .plan;
+      «last_row» = s .«last_row»;
       number = s .number;
       limits = s .limits;
-      deviations = s .deviations;
-      pollutants = s .pollutants;
+      head = s .head;
       engines = s .engines;
     }
 
 -- what is said once the record r, which has no fault, is read too
-unfoldable pub sheetWith : Sheet → Record → Sheet
-sheetWith s r = cond (eqb (kind r) 1) (withPollutant s r) (cond (eqb (kind r) 2) (withEngine s) (withStop s))
+unfoldable pub summaryWith : Summary → Record → Summary
+summaryWith s r = cond (eqb (kind r) 1) (withPollutant s r) (cond (eqb (kind r) 2) (withEngine s) (withStop s))
 
--- what a sheet that another record is read after must leave room for: the counts of a sheet are at most 37
-pub record Room (s : Sheet) : Type 0 where
-  pub pollutants : s .pollutants < 1000
+-- what a summary must leave room for, so that another record is read: the counts of a sheet are at most 37
+pub record Room (s : Summary) : Type 0 where
+  pub head : s .head < 1000
   pub engines : s .engines < 1000
 
--- what a record that is read must lie within: record k of n bytes is whole
-pub record RecordRange (k n : ℕ) : Type 0 where
-  pub inside : recordSize * k + recordSize ≤ n
+-- a limit of which half more is still a number of 32 bits; 0 stands for an undeclared pollutant
+pub record LimitRange (limit : ℕ) : Type 0 where
+  pub most : limit ≤ greatest
 
--- a byte that a record of n bytes has
-pub record ByteRange (i n : ℕ) : Type 0 where
-  pub inside : i < n
-
--- the place of a number in a record, far below what a count can hold, so that the bytes behind it have a place too
-pub record PlaceRange (i bits : ℕ) : Type 0 where
-  pub most : i < 2 ^ bits
+-- the limits of pollutants that have no fault
+pub record Limits (limits : Quantities) : Type 0 where
+  pub co : LimitRange (limits .co)
+  pub hc : LimitRange (limits .hc)
+  pub nox : LimitRange (limits .nox)
+  pub pm : LimitRange (limits .pm)

@@ -1,15 +1,18 @@
 // What the records before one say, and the refusal of a record after them.
 ghost use mathlib.Core.Path.{_≡_};
 ghost use mathlib.Core.Bool.{cond};
-ghost use Rattle.faults.specs.State.{nothing, quantitiesWith, withPollutant, withEngine, withStop, sheetWith, Room};
-use crate::field::deviation_of;
-use crate::field::kind_of;
-use crate::field::limit_of;
-use crate::field::number_of;
-use crate::field::plan_of;
+ghost use Rattle.faults.specs.State.{nothing, quantitiesWith, withPollutant, withEngine, withStop, summaryWith};
+ghost use Rattle.faults.specs.State.{Room};
+use plan::Plan;
+use record::ENGINE;
+use record::POLLUTANT;
+use record::STOP;
+use record::kind_of;
+use record::limit_of;
+use record::number_of;
+use record::plan_of;
 
 pub mod fault;
-pub mod field;
 
 // A number for each pollutant, "carbon monoxide, hydrocarbons, nitrogen oxides, particulates".
 pub struct Quantities {
@@ -19,17 +22,21 @@ pub struct Quantities {
     pub pm: u32,
 }
 
-pub struct Sheet {
+// What is kept of the records read so far: all that the refusal of the next one looks back at, and what judging starts from.
+pub struct Summary {
     // The kind of the last record, 0 where there is none.
     pub kind: u32,
+    // The plan of the pollutants, 0 where there is none.
     pub plan: u32,
+    // "The last row belongs to the plan". Kept, so that it is not found anew for each engine; 0 where there is no plan.
+    pub last_row: u32,
     // The number of the last pollutant, 0 where there is none.
     pub number: u32,
     // 0 where the pollutant is not declared.
     pub limits: Quantities,
-    pub deviations: Quantities,
-    // How many there are of each.
-    pub pollutants: u32,
+    // How many records stand before the first engine: those of kind 1.
+    pub head: u32,
+    // How many engines there are.
     pub engines: u32,
 }
 
@@ -53,14 +60,9 @@ impl Quantities {
     }
 }
 
-impl Sheet {
-    // "Records of 20 bytes, no header; at most 37."
-    pub const RECORD: usize = 20;
-
-    pub const LONGEST: usize = 37 * Sheet::RECORD;
-
+impl Summary {
     // No record yet.
-    pub fn nothing() -> Sheet
+    pub fn nothing() -> Summary
         ensures { λ s. ⌜ s ≡ nothing ⌝ }
     {
         let none = Quantities {
@@ -69,60 +71,61 @@ impl Sheet {
             nox: 0,
             pm: 0,
         };
-        Sheet {
+        Summary {
             kind: 0,
             plan: 0,
+            last_row: 0,
             number: 0,
             limits: none,
-            deviations: none,
-            pollutants: 0,
+            head: 0,
             engines: 0,
         }
     }
 
-    fn with_pollutant(self, r: &[u8]) -> Sheet
+    fn with_pollutant(self, r: &[u8]) -> Summary
         requires { ⌜ Room self ⌝ }
         ensures { λ t. ⌜ t ≡ withPollutant self (now (r .entry)) ⌝ }
     {
+        let plan = plan_of(r);
         let number = number_of(r);
         let limits = self.limits;
-        let deviations = self.deviations;
-        Sheet {
-            kind: 1,
-            plan: plan_of(r),
+        Summary {
+            kind: POLLUTANT,
+            plan,
+            last_row: Plan::of(plan).last_row(),
             number,
             limits: limits.with(number, limit_of(r)),
-            deviations: deviations.with(number, deviation_of(r)),
-            pollutants: self.pollutants + 1,
+            head: self.head + 1,
             engines: self.engines,
         }
     }
 
-    fn with_engine(mut self) -> Sheet
+    fn with_engine(mut self) -> Summary
         requires { ⌜ Room self ⌝ }
         ensures { λ t. ⌜ t ≡ withEngine self ⌝ }
     {
-        self.kind = 2;
+        self.kind = ENGINE;
         self.engines = self.engines + 1;
         self
     }
 
-    fn with_stop(mut self) -> Sheet
+    fn with_stop(mut self) -> Summary
         ensures { λ t. ⌜ t ≡ withStop self ⌝ }
     {
-        self.kind = 3;
+        self.kind = STOP;
         self
     }
 
-    // What is said once the record r, which has no fault, is read too. For `sheet` alone, whose loop reads at most 37 records after at most 37, so that no count overflows: so it may require.
-    pub fn with(self, r: &[u8]) -> Sheet
+    // What is said once the record r, which has no fault, is read too.
+    // For `checking` alone, whose loop reads at most 37 records after at most 37, so that no count overflows: so it may require.
+    pub fn with(self, r: &[u8]) -> Summary
         requires { ⌜ Room self ⌝ }
-        ensures { λ t. ⌜ t ≡ sheetWith self (now (r .entry)) ⌝ }
+        ensures { λ t. ⌜ t ≡ summaryWith self (now (r .entry)) ⌝ }
     {
         let kind = kind_of(r);
-        if kind == 1 {
+        if kind == POLLUTANT {
             self.with_pollutant(r)
-        } else if kind == 2 {
+        } else if kind == ENGINE {
             self.with_engine()
         } else {
             self.with_stop()

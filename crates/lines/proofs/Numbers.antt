@@ -7,21 +7,21 @@ use mathlib.Core.Logic.{⊎-elim}
 use mathlib.Core.List.{List, [], _∷_, _++_}
 use lib.ListN.{length, length-append}
 use borrow.Author.Tests.{lt-ltb, le-ltb}
-use Rattle.rules.specs.Printed.{digits, decimal}
+use Rattle.rules.specs.Printed.{lastDigits, decimal}
 use Rattle.arithmetic.proofs.Order.{lt-or-ge}
 
-last : (most n : ℕ) → n < 10 → digits (suc most) n ≡ (48 + n) ∷ []
-unfolding digits
+last : (most n : ℕ) → n < 10 → lastDigits (suc most) n ≡ (48 + n) ∷ []
+unfolding lastDigits
 last most n h =
     let e : n % 10 ≡ n = omega arith in
     rw (lt-ltb n 10 h, e) refl
 
-more : (most n : ℕ) → 10 ≤ n → digits (suc most) n ≡ digits most (n / 10) ++ ((48 + n % 10) ∷ [])
-unfolding digits
+more : (most n : ℕ) → 10 ≤ n → lastDigits (suc most) n ≡ lastDigits most (n / 10) ++ ((48 + n % 10) ∷ [])
+unfolding lastDigits
 more most n h = rw (le-ltb n 10 h) refl
 
 -- where there may be as many digits as n and one more, there are all of them
-enough : (a b n : ℕ) → n ≤ a → n ≤ b → digits (suc a) n ≡ digits (suc b) n
+enough : (a b n : ℕ) → n ≤ a → n ≤ b → lastDigits (suc a) n ≡ lastDigits (suc b) n
 enough zero b n h k = last zero n (omega arith) ∙ sym (last b n (omega arith))
 enough (suc a) zero n h k = last (suc a) n (omega arith) ∙ sym (last zero n (omega arith))
 enough (suc a) (suc b) n h k =

@@ -12,6 +12,7 @@ pub struct Lines {
 impl Lines {
     pub const ROOM: usize = 256;
 
+    // No bytes yet.
     pub fn nothing() -> Lines
         ensures { λ l. ⌜ l ≡ nothing ⌝ }
     {
@@ -21,6 +22,7 @@ impl Lines {
         }
     }
 
+    // With one byte more.
     pub fn with_byte(mut self, b: u8) -> Lines
         ensures { λ l. ⌜ l ≡ withByte self b ⌝ }
     {
@@ -32,6 +34,7 @@ impl Lines {
         self
     }
 
+    // With the bytes of a word.
     pub fn with_word(self, word: &[u8]) -> Lines
         ensures { λ l. ⌜ l ≡ withBytes self (now (word .entry)) ⌝ }
     {

@@ -6,7 +6,7 @@ use native.Mathlib.Nat.{mul-le-mul-right}
 use native.Mathlib.Omega.{arith}
 use lib.Pow.{pow-pos, pow-mono}
 use Rattle.arithmetic.proofs.Order.{lt-or-ge}
-use Rattle.rules.specs.Logarithm.{greatest, squarings, digits, exponent, bits, g}
+use Rattle.rules.specs.Logarithm.{greatest, squarings, binaryDigits, exponent, bits, g}
 use Rattle.logarithm.proofs.Laws.{bits-lt, logarithm-bits, g-in, g-none, g-past}
 use Rattle.logarithm.proofs.Rising.{digits-rise}
 
@@ -15,7 +15,7 @@ pub g-outside : (q m : ℕ) → (m < 1) ⊎ (greatest < m) → g q m ≡ 0
 g-outside q m h = ⊎-elim (g-none q m) (g-past q m) h
 
 exponent-le : (m : ℕ) → m ≤ greatest → exponent m ≤ 23
-unfolding digits
+unfolding binaryDigits
 exponent-le m h = omega (arith, digits-rise 32 m greatest h)
 
 pub g-lt : (q m : ℕ) → g q m < 24 * 2 ^ q

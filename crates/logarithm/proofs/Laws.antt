@@ -9,7 +9,7 @@ use lib.Dec.{leb}
 use lib.Count.{leadingZeros, leading-top}
 use lib.Pow.{pow-pos, pow-mono, pow-add}
 use borrow.Author.Tests.{le-leb, lt-leb}
-use Rattle.rules.specs.Logarithm.{greatest, digits, exponent, bit, next, bits, logarithm, g}
+use Rattle.rules.specs.Logarithm.{greatest, binaryDigits, exponent, bit, next, bits, logarithm, g}
 use Rattle.logarithm.specs.Ranges.{Scaled, Ranges}
 
 -- ---- one squaring, by its bit
@@ -24,7 +24,7 @@ bits-zero q found M h = simp (lt-leb (2 ^ 63) (M * M) h, add-zero)
 
 -- ---- M stays scaled
 
-pub square-range : (M : ℕ) → Scaled M → (2 ^ 62 ≤ M * M) × (M * M < 2 ^ 64)
+square-range : (M : ℕ) → Scaled M → (2 ^ 62 ≤ M * M) × (M * M < 2 ^ 64)
 square-range M h = (mul-le-mul (h .0) (h .0), omega (arith, mul-le-mul (h .1) (h .1)))
 
 pub scaled-one : (M : ℕ) → Scaled M → 2 ^ 63 ≤ M * M → Scaled (M * M / 2 ^ 32)
@@ -38,7 +38,7 @@ scaled-zero M h none = omega (arith, square-range M h)
 abbrev pub top : ℕ → ℕ
 top M = M * M / 2 ^ 63
 
-pub top-le : (M : ℕ) → Scaled M → top M ≤ 1
+top-le : (M : ℕ) → Scaled M → top M ≤ 1
 top-le M h = omega (arith, square-range M h)
 
 pub record Shifted (q found M : ℕ) : Type 0 where
@@ -101,8 +101,19 @@ at-next {all} {left} {found} {M} q e h =
     let s = shifted q found M (h .scaled) in
     record { scaled = s .scaled; comes = sym (s .same) ∙ (rw e at (h .comes)); small = h .small }
 
-pub at-found : {all left found M : ℕ} → At all left found M → found < 2 ^ 31
+at-found : {all left found M : ℕ} → At all left found M → found < 2 ^ 31
 at-found {all} {left} {found} {M} h = omega (arith, bits-ge left found M)
+
+-- what a turn of the loop needs, for its words of 64 and 32 bits
+pub record Fits (found M : ℕ) : Type 0 where
+  pub square : M * M < 2 ^ 64
+  pub bit : top M ≤ 1
+  pub bits : found * 2 + top M < 2 ^ 31
+
+pub at-fits : {all left found M : ℕ} → 0 < left → At all left found M → Fits found M
+at-fits {all} {left} {found} {M} l h =
+    let next = at-next (left - 1) (omega arith) h in
+    record { square = square-range M (h .scaled) .1; bit = top-le M (h .scaled); bits = at-found next }
 
 pub at-end : {all left found M : ℕ} → left ≡ 0 → At all left found M → found ≡ all
 unfolding bits
@@ -110,20 +121,20 @@ at-end e h = rw e at (h .comes)
 
 -- ---- the exponent
 
-digits-zero : (k : ℕ) → digits k 0 ≡ 0
-unfolding digits
+digits-zero : (k : ℕ) → binaryDigits k 0 ≡ 0
+unfolding binaryDigits
 digits-zero zero = refl
 digits-zero (suc k) = refl
 
-digits-of : (k j m : ℕ) → j < k → 2 ^ j ≤ m → m < 2 ^ suc j → digits k m ≡ suc j
-unfolding digits
+digits-of : (k j m : ℕ) → j < k → 2 ^ j ≤ m → m < 2 ^ suc j → binaryDigits k m ≡ suc j
+unfolding binaryDigits
 digits-of zero j m l h b = omega arith
 digits-of (suc k) zero m l h b =
     let e : m / 2 ≡ 0 = omega arith in
     simp (le-leb 1 m h, e, digits-zero k)
 digits-of (suc k) (suc j) m l h b =
     let p : 1 ≤ m = omega (arith, pow-pos (suc j)) in
-    let r : digits k (m / 2) ≡ suc j = digits-of k j (m / 2) (omega arith) (omega arith) (omega arith) in
+    let r : binaryDigits k (m / 2) ≡ suc j = digits-of k j (m / 2) (omega arith) (omega arith) (omega arith) in
     simp (le-leb 1 m p, r) (omega arith)
 
 -- what the count of m's leading zeros says of its exponent
@@ -136,7 +147,7 @@ pub record Placed (m zeros : ℕ) : Type 0 where
 
 placed-at : (m zeros j : ℕ) → zeros + suc j ≡ 32 → 2 ^ j ≤ m → m < 2 ^ suc j → Placed m zeros
 placed-at m zeros j s h b =
-    let d : digits 32 m ≡ suc j = digits-of 32 j m (omega arith) h b in
+    let d : binaryDigits 32 m ≡ suc j = digits-of 32 j m (omega arith) h b in
     let t : j + zeros ≡ 31 = omega arith in
     let e : 2 ^ j * 2 ^ zeros ≡ 2 ^ 31 = sym (pow-add 2 j zeros) ∙ ap (λ (x : ℕ). 2 ^ x) t in
     let w : 31 - zeros ≡ j = omega arith in
@@ -166,7 +177,7 @@ unwrapped h = mod-eq-of-lt (omega arith)
 pub ranges-placed : {q m zeros : ℕ} → q ≤ 26 → Placed m zeros → Ranges q (31 - zeros) (m * 2 ^ zeros % 2 ^ 64)
 ranges-placed few h = rw (unwrapped h) (record { few = few; small = omega arith; scaled = h .scaled })
 
-pub logarithm-placed : {m zeros : ℕ} → (q : ℕ) → Placed m zeros → bits q (31 - zeros) (m * 2 ^ zeros % 2 ^ 64) ≡ logarithm q m
+logarithm-placed : {m zeros : ℕ} → (q : ℕ) → Placed m zeros → bits q (31 - zeros) (m * 2 ^ zeros % 2 ^ 64) ≡ logarithm q m
 logarithm-placed {m} q h = rw (unwrapped h) (sym (rw (h .rest, h .is) at (logarithm-bits q m)))
 
 -- ---- "m from 1 to 9,999,999", "any other m gets 0"
@@ -184,3 +195,7 @@ unfolding g
 g-past q m h =
     let p : 1 ≤ m = omega arith in
     simp (le-leb 1 m p, lt-leb m greatest h)
+
+-- g as the code has it
+pub g-placed : {m zeros : ℕ} → (q : ℕ) → 1 ≤ m → m ≤ greatest → Placed m zeros → bits q (31 - zeros) (m * 2 ^ zeros % 2 ^ 64) ≡ g q m
+g-placed {m} q p l h = logarithm-placed q h ∙ sym (g-in q m p l)

@@ -7,7 +7,7 @@ use native.Mathlib.Decide.{decLe}
 use native.Mathlib.Omega.{arith}
 use borrow.Author.Tests.{le-leb, lt-leb}
 use lib.Pow.{shr-mono}
-use Rattle.rules.specs.Logarithm.{greatest, digits, exponent, bits, logarithm, g}
+use Rattle.rules.specs.Logarithm.{greatest, binaryDigits, exponent, bits, logarithm, g}
 use Rattle.logarithm.proofs.Laws.{bits-one, bits-zero, bits-after, bits-lt, logarithm-bits, g-in}
 
 -- fewer bits found stay fewer
@@ -39,9 +39,9 @@ bits-rise zero found M N l = le-refl found
 bits-rise (suc q) found M N l = more q (bits-rise q) found M N l (decLe (2 ^ 63) (M * M)) (decLe (2 ^ 63) (N * N))
 
 -- nor does the number of digits fall
-digits-more : (k : ℕ) → ((m m′ : ℕ) → m ≤ m′ → digits k m ≤ digits k m′) → (m m′ : ℕ) → m ≤ m′ → Dec (1 ≤ m)
-    → digits (suc k) m ≤ digits (suc k) m′
-unfolding digits
+digits-more : (k : ℕ) → ((m m′ : ℕ) → m ≤ m′ → binaryDigits k m ≤ binaryDigits k m′) → (m m′ : ℕ) → m ≤ m′ → Dec (1 ≤ m)
+    → binaryDigits (suc k) m ≤ binaryDigits (suc k) m′
+unfolding binaryDigits
 digits-more k rest m m′ l (yes p) =
     let p′ : 1 ≤ m′ = omega arith in
     simp (le-leb 1 m p, le-leb 1 m′ p′) (omega (arith, rest (m / 2) (m′ / 2) (omega arith)))
@@ -49,8 +49,8 @@ digits-more k rest m m′ l (no z) =
     let z′ : m < 1 = omega arith in
     simp (lt-leb 1 m z′) zero-le
 
-pub digits-rise : (k m m′ : ℕ) → m ≤ m′ → digits k m ≤ digits k m′
-unfolding digits
+pub digits-rise : (k m m′ : ℕ) → m ≤ m′ → binaryDigits k m ≤ binaryDigits k m′
+unfolding binaryDigits
 digits-rise zero m m′ l = le-refl 0
 digits-rise (suc k) m m′ l = digits-more k (digits-rise k) m m′ l (decLe 1 m)
 

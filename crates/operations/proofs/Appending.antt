@@ -14,9 +14,9 @@ use Rattle.rules.specs.Refusals.{Check, accepted, refused, check}
 use Rattle.rules.specs.Operations.{andThen, noRoom, joined, append, appended}
 use Rattle.arithmetic.proofs.Booleans.{or-false}
 use Rattle.faults.specs.State.{nothing}
-use Rattle.sheet.specs.declared.Checked.{Checked}
-use Rattle.sheet.specs.declared.Checked.the-variants as checked
-use Rattle.sheet.specs.Check.{summary, checkedBy, checkedOf, soFar, joinedBy, joinedOf}
+use Rattle.checking.specs.declared.Checked.{Checked}
+use Rattle.checking.specs.declared.Checked.the-variants as checked
+use Rattle.checking.specs.Check.{summary, checkedBy, checkedOf, soFar, joinedBy, joinedOf}
 use Rattle.operations.specs.Outcomes.{checkIs}
 
 -- ---- the sheet with the record behind it
@@ -33,7 +33,7 @@ so-far-is : (b : List ℕ) → checkIs (soFar b) ≡ cond (eqb (length b) 0) acc
 unfolding soFar
 so-far-is b = cases (eqb (length b) 0)
   where
-    cases : (t : Bool) → checkIs (cond t (checked.Sheet nothing) (checkedOf b)) ≡ cond t accepted (check pollutants b)
+    cases : (t : Bool) → checkIs (cond t (checked.Accepted nothing) (checkedOf b)) ≡ cond t accepted (check pollutants b)
     cases true = refl
     cases false = check-is b
 
@@ -42,7 +42,7 @@ unfolding joinedOf joined
 joined-is b r = rw (← check-is (b ++ r), ← so-far-is b) (cases (soFar b) (checkedOf (b ++ r)))
   where
     cases : (c d : Checked) → checkIs (joinedBy c d) ≡ andThen (checkIs c) (checkIs d)
-    cases (checked.Sheet s) d = refl
+    cases (checked.Accepted s) d = refl
     cases (checked.Refused f) d = refl
 
 -- ---- the buffer

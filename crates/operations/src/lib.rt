@@ -5,22 +5,17 @@ ghost use lib.Dec.{eqb};
 ghost use lib.ListN.{length};
 ghost use Rattle.rules.specs.Logarithm.{squarings};
 ghost use Rattle.rules.specs.Sheet.{pollutants, size};
-ghost use Rattle.rules.specs.Series.{pairOf};
 ghost use Rattle.rules.specs.Operations as rules;
-ghost use Rattle.standings.specs.Standing.{decisionIs};
 ghost use Rattle.series.specs.Answers.{judgementIs};
 ghost use Rattle.operations.specs.Outcomes.{outcomeIs, checkIs, judgedCheck};
-ghost use Rattle.operations.specs.Values.{verdictNumber, groundOf, engineOf, decisionIn, pairEngine};
-use faults::Sheet;
+use checking::Checked;
+use checking::Refusal;
+use checking::check_joined;
 use series::Judged;
 use series::Judgement;
-use series::Verdict;
 use series::judge;
-use sheet::Checked;
-use sheet::Refusal;
-use sheet::check_joined;
-use standings::Decision;
 
+// What append and report come to: done, or the refusal that they return.
 pub enum Outcome {
     Done,
     Refused(Refusal),
@@ -37,7 +32,7 @@ fn refused(number: u8) -> Outcome
 fn bad_record(r: &[u8]) -> bool
     ensures { λ b. ⌜ b ≡ not (eqb (length (now (r .entry))) (size pollutants)) ⌝ }
 {
-    r.len() != Sheet::RECORD
+    r.len() != record::SIZE
 }
 
 // "13, fewer than 20 bytes after u, or u beyond the buffer"
@@ -47,7 +42,7 @@ fn no_room(buffer: &[u8], used: usize) -> bool
     if buffer.len() < used {
         return true;
     }
-    buffer.len() - used < Sheet::RECORD
+    buffer.len() - used < record::SIZE
 }
 
 // The check's answer without what an accepted sheet says.
@@ -56,7 +51,7 @@ fn checked_outcome(checked: Checked) -> Outcome
 {
     match checked {
         Checked::Refused(refusal) => Outcome::Refused(refusal),
-        Checked::Sheet(_) => Outcome::Done,
+        Checked::Accepted(_) => Outcome::Done,
     }
 }
 
@@ -86,92 +81,34 @@ pub fn append(buffer: &mut [u8], used: usize, added: &[u8]) -> Outcome
     Outcome::Done
 }
 
-// "verdict (0 another, 1 pass, 2 fail, 3 referred)"
-fn verdict_number(verdict: Verdict) -> u8
-    ensures { λ n. ⌜ n ≡ verdictNumber verdict ⌝ }
-{
-    match verdict {
-        Verdict::Another(_) => 0,
-        Verdict::Pass(_) => 1,
-        Verdict::FailByRow(_) => 2,
-        Verdict::FailByCause(_) => 2,
-        Verdict::FailByStop(_) => 2,
-        Verdict::Referred(_) => 3,
-    }
-}
-
-// "engine (for another, the engines so far)"
-fn engine_of(verdict: Verdict) -> u8
-    ensures { λ n. ⌜ n ≡ engineOf verdict ⌝ }
-{
-    match verdict {
-        Verdict::Another(n) => n,
-        Verdict::Pass(n) => n,
-        Verdict::FailByRow(n) => n,
-        Verdict::FailByCause(n) => n,
-        Verdict::FailByStop(n) => n,
-        Verdict::Referred(n) => n,
-    }
-}
-
-// "ground (0 none, 1 a row, 2 equal cause, 3 stopped, 4 referred)"
-fn ground_of(verdict: Verdict) -> u8
-    ensures { λ n. ⌜ n ≡ groundOf verdict ⌝ }
-{
-    match verdict {
-        Verdict::Another(_) => 0,
-        Verdict::Pass(_) => 1,
-        Verdict::FailByRow(_) => 1,
-        Verdict::FailByCause(_) => 2,
-        Verdict::FailByStop(_) => 3,
-        Verdict::Referred(_) => 4,
-    }
-}
-
-// "decision (0 open or undeclared, 1 pass, 2 fail)"
-fn decision_number(decision: Decision) -> u8
-    ensures { λ n. ⌜ n ≡ decisionIn (pairOf (decisionIs decision)) ⌝ }
-{
-    match decision {
-        Decision::Open => 0,
-        Decision::Passed(_) => 1,
-        Decision::Failed(_) => 2,
-    }
-}
-
-// "and engine (0 where the decision is 0)"
-fn decision_engine(decision: Decision) -> u8
-    ensures { λ n. ⌜ n ≡ pairEngine (pairOf (decisionIs decision)) ⌝ }
-{
-    match decision {
-        Decision::Open => 0,
-        Decision::Passed(n) => n,
-        Decision::Failed(n) => n,
-    }
-}
-
 // "16 as the mark of a report, verdict, ground, engine, four pairs of decision and engine, pollutant 1 first, eight zeros"
 fn values(judgement: Judgement) -> [u8; 20]
     ensures { λ a. ⌜ a ≡ rules.reportBytes pollutants (judgementIs judgement) ⌝ }
 {
     let verdict = judgement.verdict;
-    let co = judgement.co;
-    let hc = judgement.hc;
-    let nox = judgement.nox;
-    let pm = judgement.pm;
+    let decisions = judgement.decisions;
+    let co = decisions.co;
+    let hc = decisions.hc;
+    let nox = decisions.nox;
+    let pm = decisions.pm;
+    let numbers = verdict.numbers();
+    let co = co.pair();
+    let hc = hc.pair();
+    let nox = nox.pair();
+    let pm = pm.pair();
     [
         16,
-        verdict_number(verdict),
-        ground_of(verdict),
-        engine_of(verdict),
-        decision_number(co),
-        decision_engine(co),
-        decision_number(hc),
-        decision_engine(hc),
-        decision_number(nox),
-        decision_engine(nox),
-        decision_number(pm),
-        decision_engine(pm),
+        numbers.verdict,
+        numbers.ground,
+        numbers.engine,
+        co.decision,
+        co.engine,
+        hc.decision,
+        hc.engine,
+        nox.decision,
+        nox.engine,
+        pm.decision,
+        pm.engine,
         0,
         0,
         0,
@@ -198,7 +135,7 @@ pub fn report(sheet: &[u8], output: &mut [u8]) -> Outcome
     ensures { λ o. ⌜ outcomeIs o ≡ rules.report pollutants (now (sheet .entry)) (now (output .entry)) ⌝ }
     ensures { λ _. ⌜ now (output .exit) ≡ rules.reported pollutants squarings (now (sheet .entry)) (now (output .entry)) ⌝ }
 {
-    if output.len() < Sheet::RECORD {
+    if output.len() < record::SIZE {
         return refused(15);
     }
     let judged = judge(sheet);

@@ -3,6 +3,7 @@ ghost use mathlib.Core.Path.{_≡_};
 ghost use Rattle.rules.specs.Plans.{planOf, lastRow};
 ghost use Rattle.plan.specs.Plan.{planIs};
 
+// By which plan a sheet is judged.
 pub enum Plan {
     KnownDeviation,
     UnknownDeviation,
@@ -11,6 +12,16 @@ pub enum Plan {
 }
 
 impl Plan {
+    // The number of each plan on a sheet.
+    pub const KNOWN_DEVIATION: u32 = 1;
+
+    pub const UNKNOWN_DEVIATION: u32 = 2;
+
+    pub const ATTRIBUTES: u32 = 3;
+
+    pub const IN_SERVICE: u32 = 4;
+
+    // The last row of each.
     pub const KNOWN_DEVIATION_LAST_ROW: u32 = 32;
 
     pub const UNKNOWN_DEVIATION_LAST_ROW: u32 = 32;
@@ -19,15 +30,15 @@ impl Plan {
 
     pub const IN_SERVICE_LAST_ROW: u32 = 15;
 
-    // The plan of the number on a sheet, 1 to 4.
+    // The plan of a number that the check lets pass, 1 to 4: of any other, the last.
     pub fn of(number: u32) -> Plan
         ensures { λ p. ⌜ planIs p ≡ planOf number ⌝ }
     {
-        if number == 1 {
+        if number == Plan::KNOWN_DEVIATION {
             Plan::KnownDeviation
-        } else if number == 2 {
+        } else if number == Plan::UNKNOWN_DEVIATION {
             Plan::UnknownDeviation
-        } else if number == 3 {
+        } else if number == Plan::ATTRIBUTES {
             Plan::Attributes
         } else {
             Plan::InService

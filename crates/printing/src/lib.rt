@@ -7,15 +7,14 @@ ghost use Rattle.rules.specs.Logarithm.{squarings};
 ghost use Rattle.rules.specs.Sheet.{pollutants};
 ghost use Rattle.rules.specs.Printed.{decimal, line, refusedWord, printed};
 ghost use Rattle.lines.specs.Writing.{room, nothing, Adds, Written};
-ghost use Rattle.printing.specs.Judgements.{firstLine, limitLine, judgementLines};
-use faults::Quantities;
+ghost use Rattle.printing.specs.Judgements.{firstLine, decisionLine, judgementLines};
+use checking::Refusal;
+use decisions::Decision;
 use lines::Lines;
-use series::JudgedWithLimits;
+use series::Judged;
 use series::Judgement;
-use series::Verdict;
-use series::judge_with_limits;
-use sheet::Refusal;
-use standings::Decision;
+use series::Numbers;
+use series::judge;
 
 // A line of a word and two numbers.
 fn line_of(word: &[u8], a: u8, b: u8) -> Lines
@@ -31,16 +30,17 @@ fn line_of(word: &[u8], a: u8, b: u8) -> Lines
 }
 
 // "Line 1: verdict word (another, pass, fail, referred), engine, ground"
-fn first_line(verdict: Verdict) -> Lines
-    ensures { λ l. ⌜ Adds nothing l (firstLine verdict) 17 ⌝ }
+fn first_line(numbers: Numbers) -> Lines
+    ensures { λ l. ⌜ Adds nothing l (firstLine numbers) 17 ⌝ }
 {
+    let verdict = numbers.verdict;
+    let engine = numbers.engine;
+    let ground = numbers.ground;
     match verdict {
-        Verdict::Another(engine) => line_of(b"another", engine, 0),
-        Verdict::Pass(engine) => line_of(b"pass", engine, 1),
-        Verdict::FailByRow(engine) => line_of(b"fail", engine, 1),
-        Verdict::FailByCause(engine) => line_of(b"fail", engine, 2),
-        Verdict::FailByStop(engine) => line_of(b"fail", engine, 3),
-        Verdict::Referred(engine) => line_of(b"referred", engine, 4),
+        0 => line_of(b"another", engine, ground),
+        1 => line_of(b"pass", engine, ground),
+        2 => line_of(b"fail", engine, ground),
+        _ => line_of(b"referred", engine, ground),
     }
 }
 
@@ -57,14 +57,12 @@ fn with_decision(lines: Lines, p: u8, word: &[u8], engine: u8) -> Lines
         .with_byte(b'\n')
 }
 
-// "a line for each declared pollutant": there is none where the limit is 0.
-fn with_pollutant(lines: Lines, p: u8, limit: u32, decision: Decision) -> Lines
-    ensures { λ l. ⌜ Adds lines l (limitLine p limit decision) (length (decimal p) + 10) ⌝ }
+// "a line for each declared pollutant"
+fn with_pollutant(lines: Lines, p: u8, decision: Decision) -> Lines
+    ensures { λ l. ⌜ Adds lines l (decisionLine p decision) (length (decimal p) + 10) ⌝ }
 {
-    if limit == 0 {
-        return lines;
-    }
     match decision {
+        Decision::Undeclared => lines,
         Decision::Open => with_decision(lines, p, b"open", 0),
         Decision::Passed(engine) => with_decision(lines, p, b"pass", engine),
         Decision::Failed(engine) => with_decision(lines, p, b"fail", engine),
@@ -78,28 +76,29 @@ fn refusal_lines(r: Refusal) -> Lines
     line_of(b"refused", r.number, r.place)
 }
 
-fn judgement_lines(judgement: Judgement, limits: Quantities) -> Lines
-    ensures { λ l. ⌜ Adds nothing l (judgementLines judgement limits) room ⌝ }
+fn judgement_lines(judgement: Judgement) -> Lines
+    ensures { λ l. ⌜ Adds nothing l (judgementLines judgement) room ⌝ }
 {
     let verdict = judgement.verdict;
-    let co = judgement.co;
-    let hc = judgement.hc;
-    let nox = judgement.nox;
-    let pm = judgement.pm;
-    let lines = first_line(verdict);
-    let lines = with_pollutant(lines, 1, limits.co, co);
-    let lines = with_pollutant(lines, 2, limits.hc, hc);
-    let lines = with_pollutant(lines, 3, limits.nox, nox);
-    with_pollutant(lines, 4, limits.pm, pm)
+    let decisions = judgement.decisions;
+    let co = decisions.co;
+    let hc = decisions.hc;
+    let nox = decisions.nox;
+    let pm = decisions.pm;
+    let lines = first_line(verdict.numbers());
+    let lines = with_pollutant(lines, 1, co);
+    let lines = with_pollutant(lines, 2, hc);
+    let lines = with_pollutant(lines, 3, nox);
+    with_pollutant(lines, 4, pm)
 }
 
 // The lines for the bytes of a sheet, whatever they are.
 pub fn print(sheet: &[u8]) -> Lines
     ensures { λ l. ⌜ Written l (printed pollutants squarings (now (sheet .entry))) ⌝ }
 {
-    let judged = judge_with_limits(sheet);
+    let judged = judge(sheet);
     match judged {
-        JudgedWithLimits::Judgement(judgement, limits) => judgement_lines(judgement, limits),
-        JudgedWithLimits::Refused(refusal) => refusal_lines(refusal),
+        Judged::Judgement(judgement) => judgement_lines(judgement),
+        Judged::Refused(refusal) => refusal_lines(refusal),
     }
 }

@@ -1,17 +1,20 @@
 // "A sheet under reading is the lent bytes and the number of the next record": a struct over the slice, and few functions over it.
 // Each takes the struct apart and leaves the work to a function on the slice and the number.
 ghost use mathlib.Core.Path.{_≡_};
-ghost use Rattle.reading.specs.Steps.{pollutantStep, engineStep, stepOf, stepAt, leftAt, nextAt, reader, advanced, turnAt};
+ghost use Rattle.reading.specs.Steps.{pollutantStep, engineStep, stepOf, stepAt, leftAt, nextAt};
+ghost use Rattle.reading.specs.Steps.{reader, advanced, turnAt};
 use faults::Quantities;
-use faults::Sheet;
-use faults::field::cause_of;
-use faults::field::deviation_of;
-use faults::field::kind_of;
-use faults::field::limit_of;
-use faults::field::measurement_of;
-use faults::field::number_of;
-use faults::field::plan_of;
-use faults::field::record_at;
+use record::ENGINE;
+use record::POLLUTANT;
+use record::STOP;
+use record::cause_of;
+use record::deviation_of;
+use record::kind_of;
+use record::limit_of;
+use record::measurement_of;
+use record::number_of;
+use record::plan_of;
+use record::record_at;
 
 // What stands at a number: a record of one of the three kinds, one of a kind that there is not, or the end of the whole records.
 pub enum Step {
@@ -62,46 +65,48 @@ fn step_of(r: &[u8]) -> Step
     ensures { λ s. ⌜ s ≡ stepOf (now (r .entry)) ⌝ }
 {
     let kind = kind_of(r);
-    if kind == 1 {
+    if kind == POLLUTANT {
         pollutant_step(r)
-    } else if kind == 2 {
+    } else if kind == ENGINE {
         engine_step(r)
-    } else if kind == 3 {
+    } else if kind == STOP {
         Step::Stop
     } else {
         Step::Other { kind }
     }
 }
 
-// A record that is not whole is the end.
+// What stands at a number. A record that is not whole is the end.
 pub fn step_at(bytes: &[u8], at: usize) -> Step
     ensures { λ s. ⌜ s ≡ stepAt (now (bytes .entry)) at ⌝ }
 {
-    if at < bytes.len() / Sheet::RECORD {
+    if at < bytes.len() / record::SIZE {
         step_of(record_at(bytes, at))
     } else {
         Step::End
     }
 }
 
+// How many whole records are left from the number on.
 pub fn left_at(bytes: &[u8], at: usize) -> usize
     ensures { λ n. ⌜ n ≡ leftAt (now (bytes .entry)) at ⌝ }
 {
-    let n = bytes.len() / Sheet::RECORD;
+    let n = bytes.len() / record::SIZE;
     if at < n { n - at } else { 0 }
 }
 
-// The end stays the end, so that no number is too large to have one after it.
+// The number after a number. The end stays the end, so that no number is too large to have one after it.
 pub fn next_at(bytes: &[u8], at: usize) -> usize
     ensures { λ n. ⌜ n ≡ nextAt (now (bytes .entry)) at ⌝ }
 {
-    if at < bytes.len() / Sheet::RECORD {
+    if at < bytes.len() / record::SIZE {
         at + 1
     } else {
         at
     }
 }
 
+// A sheet under reading.
 pub struct SheetReader<'a> {
     pub bytes: &'a [u8],
     pub next: usize,

@@ -6,7 +6,7 @@ use mathlib.Core.List.{List}
 use lib.Dec.{leb, eqb}
 use lib.ListN.{length, take}
 use Rattle.rules.specs.Tools.{byte, four}
-use Rattle.rules.specs.Sheet.{size, records, engines, planNumber}
+use Rattle.rules.specs.Sheet.{size, engineKind, records, engines, planNumber}
 use Rattle.rules.specs.Plans.{Plan, planOf}
 use Rattle.rules.specs.Series.{Pair, Answer, judgement}
 use Rattle.rules.specs.Operations.{judge}
@@ -55,7 +55,7 @@ module _ (w : ℕ) where
 
   -- byte k of record j lies in a measurement
   abbrev pub inMeasurement : List ℕ → (j k : ℕ) → Bool
-  inMeasurement b j k = eqb (byte b (size w * j)) 2 && leb 4 k
+  inMeasurement b j k = eqb (byte b (size w * j)) engineKind && leb 4 k
 
   -- "Two sheets are alike in all but the measurements if they are equally long and every byte outside the measurements is the same in both"
   pub record Alike (R S : List ℕ) : Type 0 where
@@ -65,5 +65,5 @@ module _ (w : ℕ) where
 
   -- "none is higher in the second if each is at most the one of the same record and pollutant in the first"
   abbrev pub NoneHigher : (R S : List ℕ) → Type 0
-  NoneHigher R S = (j p : ℕ) → size w * j < length R → byte R (size w * j) ≡ 2 → 1 ≤ p → p ≤ w
+  NoneHigher R S = (j p : ℕ) → size w * j < length R → byte R (size w * j) ≡ engineKind → 1 ≤ p → p ≤ w
       → four S (size w * j + 4 * p) ≤ four R (size w * j + 4 * p)

@@ -16,13 +16,13 @@ abbrev pub greatest : ℕ
 greatest = 9999999
 
 -- the number of binary digits of m, of which there are at most k
-unfoldable pub digits : (k m : ℕ) → ℕ
-digits zero m = 0
-digits (suc k) m = cond (leb 1 m) (1 + digits k (m / 2)) 0
+unfoldable pub binaryDigits : (k m : ℕ) → ℕ
+binaryDigits zero m = 0
+binaryDigits (suc k) m = cond (leb 1 m) (1 + binaryDigits k (m / 2)) 0
 
 -- "e is the number of binary digits of m less one": m is below 2^32
 abbrev pub exponent : ℕ → ℕ
-exponent m = digits 32 m - 1
+exponent m = binaryDigits 32 m - 1
 
 -- "Q = M × M; if Q ≥ 2^63 the next bit is 1 and M becomes Q / 2^32, else the bit is 0 and M becomes Q / 2^31, rounded down"
 abbrev pub bit : ℕ → ℕ

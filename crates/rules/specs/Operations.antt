@@ -4,7 +4,7 @@ use mathlib.Core.Bool.{Bool, not, _||_, cond}
 use mathlib.Core.List.{List, [], _∷_, _++_}
 use lib.Dec.{ltb, eqb}
 use lib.ListN.{length, take, drop, replicate}
-use Rattle.rules.specs.Sheet.{Record, size, records, ofKind}
+use Rattle.rules.specs.Sheet.{Record, size, records, pollutantKind, ofKind}
 use Rattle.rules.specs.Series.{Pair, pair, Answer, refusal, judgement, judgeRecords}
 use Rattle.rules.specs.Refusals.{Check, accepted, refused, check}
 
@@ -22,7 +22,7 @@ judge w q b = judgeBy w q (check w b) (records w b)
 
 -- the bytes through the record of engine n, which stands behind the pollutants and n − 1 engines
 abbrev pub through : (w n : ℕ) → List ℕ → List ℕ
-through w n b = take (size w * (length (ofKind 1 (records w b)) + n)) b
+through w n b = take (size w * (length (ofKind pollutantKind (records w b)) + n)) b
 
 -- "through the deciding engine's record; the whole sheet where undecided, stopped or referred": the ground tells which
 abbrev pub evidenceBy : (w : ℕ) → Answer → List ℕ → List ℕ

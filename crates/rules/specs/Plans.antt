@@ -12,6 +12,10 @@ use Rattle.rules.specs.Logarithm.{D, W}
 pub data Plan : Type 0 where
   knownDeviation unknownDeviation attributes inService : Plan
 
+-- plans 1 to 4
+abbrev pub planCount : ℕ
+planCount = 4
+
 unfoldable pub planOf : ℕ → Plan
 planOf n = cond (eqb n 1) knownDeviation (cond (eqb n 2) unknownDeviation (cond (eqb n 3) attributes inService))
 
@@ -40,13 +44,17 @@ knownA n = cond (eqb n 32) (negℤ (pos 2112)) (pos 3327 -ℤ pos 66 *ℤ (pos n
 abbrev pub knownB : (n : ℕ) → ℤ
 knownB n = cond (eqb n 32) (negℤ (pos 2112)) (negℤ (pos 4724) -ℤ pos 66 *ℤ (pos n -ℤ pos 3) +ℤ cond (leb 10 n) (pos 1) (pos 0))
 
+-- the natural logarithm of 2, in billionths
+abbrev pub logOfTwo : ℕ
+logOfTwo = 693147181
+
 -- "T = −D. Pass if T × 693,147,181 > A × t × 65,536"
 unfoldable pub knownPasses : (q n : ℕ) (D : ℤ) (t : ℕ) → Bool
-knownPasses q n D t = ltZ (knownA n *ℤ pos t *ℤ pos (2 ^ q)) (negℤ D *ℤ pos 693147181)
+knownPasses q n D t = ltZ (knownA n *ℤ pos t *ℤ pos (2 ^ q)) (negℤ D *ℤ pos logOfTwo)
 
 -- "fail if less than the same with B"
 unfoldable pub knownFails : (q n : ℕ) (D : ℤ) (t : ℕ) → Bool
-knownFails q n D t = ltZ (negℤ D *ℤ pos 693147181) (knownB n *ℤ pos t *ℤ pos (2 ^ q))
+knownFails q n D t = ltZ (negℤ D *ℤ pos logOfTwo) (knownB n *ℤ pos t *ℤ pos (2 ^ q))
 
 -- ---- 2, unknown deviation (001, App. 2)
 
@@ -61,28 +69,28 @@ atMostRoot P A W =
 unfoldable pub atLeastRoot : (P B W : ℤ) → Bool
 atLeastRoot P B W = leZ (pos 0) P && leZ (square B *ℤ W) (square P)
 
--- A and B of one row, −a/b as the document prints them
+-- A and B of one row: −a and b, which the document prints as −a/b
 pub record Numbers : Type 0 where
   pub A : ℤ
   pub B : ℤ
 
-abbrev pub −_/_ : ℕ → ℕ → Numbers
-− a / b = record { A = negℤ (pos a); B = pos b }
+abbrev pub −_and_ : ℕ → ℕ → Numbers
+− a and b = record { A = negℤ (pos a); B = pos b }
 
-infix 90 −_/_
+infix 90 −_and_
 -- "Hundred-thousandths, A/B from n = 3", to 31
 abbrev pub printed : List Numbers
 printed =
-    − 80381 / 1664743 ∷ − 76339 / 768627 ∷ − 72982 / 467136 ∷ − 69962 / 325573 ∷ − 67129 / 245431 ∷
-    − 64406 / 194369 ∷ − 61750 / 159105 ∷ − 59135 / 133295 ∷ − 56542 / 113566 ∷ − 53960 / 97970 ∷
-    − 51379 / 85307 ∷ − 48791 / 74801 ∷ − 46191 / 65928 ∷ − 43573 / 58321 ∷ − 40933 / 51718 ∷
-    − 38266 / 45922 ∷ − 35570 / 40788 ∷ − 32840 / 36203 ∷ − 30072 / 32078 ∷ − 27263 / 28343 ∷
-    − 24410 / 24943 ∷ − 21509 / 21831 ∷ − 18557 / 18970 ∷ − 15550 / 16328 ∷ − 12483 / 13880 ∷
-    − 9354 / 11603 ∷ − 6159 / 9480 ∷ − 2892 / 7493 ∷ − 449 / 5629 ∷ []
+    − 80381 and 1664743 ∷ − 76339 and 768627 ∷ − 72982 and 467136 ∷ − 69962 and 325573 ∷ − 67129 and 245431 ∷
+    − 64406 and 194369 ∷ − 61750 and 159105 ∷ − 59135 and 133295 ∷ − 56542 and 113566 ∷ − 53960 and 97970 ∷
+    − 51379 and 85307 ∷ − 48791 and 74801 ∷ − 46191 and 65928 ∷ − 43573 and 58321 ∷ − 40933 and 51718 ∷
+    − 38266 and 45922 ∷ − 35570 and 40788 ∷ − 32840 and 36203 ∷ − 30072 and 32078 ∷ − 27263 and 28343 ∷
+    − 24410 and 24943 ∷ − 21509 and 21831 ∷ − 18557 and 18970 ∷ − 15550 and 16328 ∷ − 12483 and 13880 ∷
+    − 9354 and 11603 ∷ − 6159 and 9480 ∷ − 2892 and 7493 ∷ − 449 and 5629 ∷ []
 
 -- "A at 32 is −3876"; there is no B at 32, and none is asked for
 unfoldable pub unknownNumbers : (n : ℕ) → Numbers
-unknownNumbers n = getD printed (n - 3) (− 3876 / 0)
+unknownNumbers n = getD printed (n - 3) (− 3876 and 0)
 
 -- "P = 100,000 × D. Pass if P ≤ A√W, fail if P ≥ B√W, roots never taken."
 unfoldable pub rootPasses : (A : ℤ) (D W : ℤ) → Bool

@@ -10,13 +10,13 @@ use Rattle.rules.specs.Operations.{judge}
 -- ---- a line
 
 -- the last digits of n in decimal, at most so many, without leading zeros
-unfoldable pub digits : (most n : ℕ) → List ℕ
-digits zero n = []
-digits (suc most) n = cond (ltb n 10) [] (digits most (n / 10)) ++ ((48 + n % 10) ∷ [])
+unfoldable pub lastDigits : (most n : ℕ) → List ℕ
+lastDigits zero n = []
+lastDigits (suc most) n = cond (ltb n 10) [] (lastDigits most (n / 10)) ++ ((48 + n % 10) ∷ [])
 
 -- all of them: n has at most n + 1 digits
 unfoldable pub decimal : ℕ → List ℕ
-decimal n = digits (suc n) n
+decimal n = lastDigits (suc n) n
 
 -- words with a space (32) between, and a newline (10)
 abbrev pub line : List (List ℕ) → List ℕ

@@ -6,15 +6,15 @@ use lib.Dec.{leb, ltb, eqb}
 use lib.ListN.{length, take, drop}
 use Rattle.rules.specs.Tools.{any, within}
 use Rattle.rules.specs.Logarithm.{greatest}
-use Rattle.rules.specs.Sheet.{Record, Pollutant, size, most, records, numbers, kind, number, plan, limit, deviation, cause, measurement, engines, stopped, planNumber, declared, declares, gross}
-use Rattle.rules.specs.Plans.{planOf, lastRow}
+use Rattle.rules.specs.Sheet.{Record, Pollutant, size, most, records, numbers, pollutantKind, engineKind, stopKind, kind, number, plan, limit, deviation, cause, measurement, engines, stopped, planNumber, declared, declares, gross}
+use Rattle.rules.specs.Plans.{planCount, planOf, lastRow}
 
 -- ---- the faults of a record r that stands after the faultless records `before`
 
 -- "3, first record not kind 1, kind 1 after another kind, or anything after kind 3"
 unfoldable pub misplaced : (before : List Record) → Record → Bool
-misplaced [] r = not (eqb (kind r) 1)
-misplaced (a ∷ before) r = eqb (kind r) 1 && any (λ b. not (eqb (kind b) 1)) (a ∷ before) || stopped (a ∷ before)
+misplaced [] r = not (eqb (kind r) pollutantKind)
+misplaced (a ∷ before) r = eqb (kind r) pollutantKind && any (λ b. not (eqb (kind b) pollutantKind)) (a ∷ before) || stopped (a ∷ before)
 
 -- the number of the last declared pollutant, 0 where there is none
 abbrev pub newest : List Pollutant → ℕ
@@ -28,16 +28,19 @@ badNumber w before r = not (within 1 w (number r)) || leb (number r) (newest (de
 
 -- "5, plan not 1 to 4 or unlike the first"
 unfoldable pub badPlan : (before : List Record) → Record → Bool
-badPlan [] r = not (within 1 4 (plan r))
-badPlan (a ∷ before) r = not (within 1 4 (plan r)) || not (eqb (plan r) (planNumber (a ∷ before)))
+badPlan [] r = not (within 1 planCount (plan r))
+badPlan (a ∷ before) r = not (within 1 planCount (plan r)) || not (eqb (plan r) (planNumber (a ∷ before)))
 
 -- "6, limit out of range": 1 to 9,999,999
 unfoldable pub badLimit : Record → Bool
 badLimit r = not (within 1 greatest (limit r))
 
 -- "7, deviation": "1 to 4,000,000 in plan 1, zero otherwise"
+abbrev pub greatestDeviation : ℕ
+greatestDeviation = 4000000
+
 unfoldable pub badDeviation : Record → Bool
-badDeviation r = cond (eqb (plan r) 1) (not (within 1 4000000 (deviation r))) (not (eqb (deviation r) 0))
+badDeviation r = cond (eqb (plan r) 1) (not (within 1 greatestDeviation (deviation r))) (not (eqb (deviation r) 0))
 
 -- "8, measurement, also one not zero of an undeclared pollutant"
 abbrev pub badValue : List Pollutant → Record → (p : ℕ) → Bool
@@ -46,9 +49,13 @@ badValue ps r p = cond (declares ps p) (not (within 1 greatest (measurement r p)
 unfoldable pub badMeasurement : (w : ℕ) → List Pollutant → Record → Bool
 badMeasurement w ps r = any (badValue ps r) (numbers w)
 
+-- "its cause is 1 to 65,534"
+abbrev pub greatestCause : ℕ
+greatestCause = 65534
+
 -- "9, cause": "In plan 4 [a gross emitter's] cause is 1 to 65,534, any other vehicle's is 0; in plans 1 to 3 cause is 0."
 unfoldable pub badCause : (planNumber : ℕ) → List Pollutant → Record → Bool
-badCause n ps r = cond (eqb n 4 && gross ps r) (not (within 1 65534 (cause r))) (not (eqb (cause r) 0))
+badCause n ps r = cond (eqb n 4 && gross ps r) (not (within 1 greatestCause (cause r))) (not (eqb (cause r) 0))
 
 -- "10, more engines than the last row"
 unfoldable pub tooMany : (before : List Record) → Bool
@@ -61,9 +68,9 @@ nonzero r a e = any (λ x. not (eqb x 0)) (take (e - a) (drop a r))
 -- "12, another byte that must be zero", of each kind
 unfoldable pub unused : (w : ℕ) → Record → Bool
 unused w r =
-    eqb (kind r) 1 && (nonzero r 3 4 || nonzero r 12 (size w))
-    || eqb (kind r) 2 && nonzero r 1 2
-    || eqb (kind r) 3 && nonzero r 1 (size w)
+    eqb (kind r) pollutantKind && (nonzero r 3 4 || nonzero r 12 (size w))
+    || eqb (kind r) engineKind && nonzero r 1 2
+    || eqb (kind r) stopKind && nonzero r 1 (size w)
 
 -- a refusal's number, and whether the record has that fault
 pub data Fault : Type 0 where
@@ -77,16 +84,16 @@ first (fault k false ∷ fs) = first fs
 
 unfoldable pub faults : (w : ℕ) → (before : List Record) → Record → List Fault
 faults w before r =
-    fault 2 (not (within 1 3 (kind r)))
+    fault 2 (not (within pollutantKind stopKind (kind r)))
     ∷ fault 3 (misplaced before r)
-    ∷ fault 4 (eqb (kind r) 1 && badNumber w before r)
-    ∷ fault 5 (eqb (kind r) 1 && badPlan before r)
-    ∷ fault 6 (eqb (kind r) 1 && badLimit r)
-    ∷ fault 7 (eqb (kind r) 1 && badDeviation r)
-    ∷ fault 8 (eqb (kind r) 2 && badMeasurement w (declared before) r)
-    ∷ fault 9 (eqb (kind r) 2 && badCause (planNumber before) (declared before) r)
-    ∷ fault 10 (eqb (kind r) 2 && tooMany before)
-    ∷ fault 11 (eqb (kind r) 3 && eqb (planNumber before) 4)
+    ∷ fault 4 (eqb (kind r) pollutantKind && badNumber w before r)
+    ∷ fault 5 (eqb (kind r) pollutantKind && badPlan before r)
+    ∷ fault 6 (eqb (kind r) pollutantKind && badLimit r)
+    ∷ fault 7 (eqb (kind r) pollutantKind && badDeviation r)
+    ∷ fault 8 (eqb (kind r) engineKind && badMeasurement w (declared before) r)
+    ∷ fault 9 (eqb (kind r) engineKind && badCause (planNumber before) (declared before) r)
+    ∷ fault 10 (eqb (kind r) engineKind && tooMany before)
+    ∷ fault 11 (eqb (kind r) stopKind && eqb (planNumber before) 4)
     ∷ fault 12 (unused w r)
     ∷ []
 
@@ -107,7 +114,7 @@ checkFrom w before (r ∷ rs) =
     cond (eqb (faultOf w before r) 0) (checkFrom w (before ++ (r ∷ [])) rs) (refused (faultOf w before r) (length before))
 
 -- "1, no bytes, a length not a multiple of 20, or over 740 bytes"
-unfoldable pub badLength : (w length : ℕ) → Bool
+unfoldable pub badLength : (w bytes : ℕ) → Bool
 badLength w n = eqb n 0 || not (eqb (n % size w) 0) || ltb (most w * size w) n
 
 -- "for 1, record 0"

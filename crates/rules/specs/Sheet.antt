@@ -42,6 +42,15 @@ unfoldable pub records : (w : ℕ) → List ℕ → List Record
 records w b = cut (size w) (length b / size w) b
 
 -- "Byte 0 is the kind": 1 pollutant, 2 engine or vehicle, 3 testing stopped by the manufacturer
+abbrev pub pollutantKind : ℕ
+pollutantKind = 1
+
+abbrev pub engineKind : ℕ
+engineKind = 2
+
+abbrev pub stopKind : ℕ
+stopKind = 3
+
 unfoldable pub kind : Record → ℕ
 kind r = byte r 0
 
@@ -71,11 +80,11 @@ ofKind k rs = those (λ r. eqb (kind r) k) rs
 
 -- "Its engines are its records of kind 2"
 abbrev pub engines : List Record → List Record
-engines rs = ofKind 2 rs
+engines rs = ofKind engineKind rs
 
 -- whether testing was stopped
 abbrev pub stopped : List Record → Bool
-stopped rs = any (λ r. eqb (kind r) 3) rs
+stopped rs = any (λ r. eqb (kind r) stopKind) rs
 
 -- the plan is the first record's
 unfoldable pub planNumber : List Record → ℕ
@@ -91,7 +100,7 @@ unfoldable pub pollutant : Record → Pollutant
 pollutant r = record { number = number r; limit = limit r; deviation = deviation r }
 
 unfoldable pub declared : List Record → List Pollutant
-declared rs = map pollutant (ofKind 1 rs)
+declared rs = map pollutant (ofKind pollutantKind rs)
 
 unfoldable pub declares : List Pollutant → (p : ℕ) → Bool
 declares ps p = any (λ c. eqb (c .number) p) ps

@@ -1,34 +1,79 @@
--- The answers for bytes: judging and evidence, from the walk over an accepted sheet or from its refusal.
-use Prim.Native.Nat.{ℕ, zero, suc, _+_, _*_, _≤_}
+-- The answers for bytes: judging and evidence, from the tally of an accepted sheet's columns or from its refusal.
+use Prim.Native.Nat.{ℕ, _+_, _*_, _≤_, _<_}
 use native.Mathlib.Omega.{arith}
-use mathlib.Core.Path.{_≡_, refl, sym, _∙_}
+use mathlib.Core.Path.{_≡_, refl, sym, ap, _∙_}
 use mathlib.Core.Bool.{Bool, true, false}
-use mathlib.Core.List.{List, []}
+use mathlib.Core.List.{List, [], map}
+use lib.Dec.{eqb}
 use lib.ListN.{length, take}
 use lib.Seq.{take-length}
 use Rattle.rules.specs.Logarithm.{squarings}
-use Rattle.rules.specs.Tools.{any, all}
-use Rattle.rules.specs.Sheet.{Record, Pollutant, pollutants, records, ofKind, engines, stopped, planNumber, declared, recordSize}
-use Rattle.rules.specs.Plans as plans
+use Rattle.rules.specs.Sheet.{pollutants, records, ofKind, recordSize, declares, numbers}
+use Rattle.rules.specs.Plans.{planOf, lastRow}
 use Rattle.rules.specs.Series as rules
 use Rattle.rules.specs.Refusals.{check}
 use Rattle.rules.specs.Operations.{judge, evidenceBy, evidence, code}
-use Rattle.faults.specs.declared.Sheet.{Sheet}
-use Rattle.sheet.specs.declared.Refusal.{Refusal}
-use Rattle.sheet.specs.declared.Checked.{Checked}
-use Rattle.sheet.specs.declared.Checked.the-variants as checked
-use Rattle.sheet.specs.Check.{checkedOf}
-use Rattle.sheet.proofs.Laws as laws
+use Rattle.accepted.specs.Sheets.{pollutantsIn, enginesIn, AcceptedSheet}
+use Rattle.accepted.proofs.Sheets.{inside, few, rows-fit, last-most}
+use Rattle.answers.proofs.Answers.{engineIn}
+use Rattle.answers.proofs.Answers as answers
+use Rattle.answers.proofs.Ranges.{engine-within}
+use Rattle.faults.specs.declared.Summary.{Summary}
+use Rattle.checking.specs.declared.Refusal.{Refusal}
+use Rattle.checking.specs.declared.Checked.{Checked}
+use Rattle.checking.specs.declared.Checked.the-variants as checked
+use Rattle.checking.specs.Check.{checkedOf, Valid}
+use Rattle.checking.proofs.Laws as laws
+use Rattle.columns.specs.Columns.{rowsOf}
+use Rattle.columns.specs.Tally.{tallied, judgeByTally}
+use Rattle.columns.proofs.Gates.{gate-most}
+use Rattle.columns.proofs.Sheets.{sheet-by-tally, declared-marks}
+use Rattle.causes.specs.declared.Gate.{Gate}
+use Rattle.causes.specs.Causes.{gateIs, beforeIn, gateOf}
+use Rattle.causes.specs.Ranges.{GateRange}
+use Rattle.plan.specs.declared.Plan.{Plan}
+use Rattle.plan.specs.Plan.{planIs}
+use Rattle.decisions.specs.Decisions.{declaredIs}
 use Rattle.series.specs.declared.Verdict.{Verdict}
 use Rattle.series.specs.declared.Verdict.the-variants.{Another, Pass, FailByRow, FailByCause, FailByStop, Referred}
 use Rattle.series.specs.declared.Judgement.{Judgement}
-use Rattle.series.specs.Answers.{verdictIs, pairsIs, judgementIs, evidenceLength}
-use Rattle.series.specs.Progress.{Valid}
-use Rattle.series.proofs.Sheets.{pollutants-are, engines-are, counts-fit}
+use Rattle.series.specs.declared.tally.Tally.{Tally}
+use Rattle.series.specs.Answers.{verdictIs, pairsIs, judgementIs, DeclaresAs, JudgementIs, evidenceLength}
+use Rattle.series.specs.Tally.{tallyIs, TalliedIs, GateFits, TallyRange}
+
+-- ---- the tally of an accepted sheet
+
+module _ {b : List ℕ} {s : Summary} (v : Valid b s) (plan : Plan) (is : planIs plan ≡ planOf (s .plan)) where
+  pub sheet : AcceptedSheet b (planIs plan) (s .head)
+  sheet = rw is (laws.accepted-so v)
+
+  pub engines-few : s .engines ≤ 32
+  engines-few = omega (arith, laws.engines-are v, rows-fit sheet, last-most (planIs plan))
+
+  pub gate-range : GateRange b (s .head) (s .engines) plan
+  gate-range = record { sheet = sheet; all = laws.engines-are v }
+
+  module _ (g : Gate) (e : gateIs g ≡ gateOf (planIs plan) b (s .engines)) where
+    pub gate-fits : GateFits g
+    gate-fits = record { few = rw e (omega (arith, gate-most (beforeIn (planIs plan) b) (s .engines), engines-few)) }
+
+    pub tally-range : {rows : ℕ} → rows ≡ rowsOf (gateIs g) → TallyRange b (s .head) plan rows
+    tally-range re = record { sheet = sheet; inside = rw (re, e, laws.engines-are v) (omega arith) }
+
+    pub judged-so : {rows : ℕ} → rows ≡ rowsOf (gateIs g) → (t : Tally) → TalliedIs b plan rows t → (j : Judgement)
+        → judgementIs j ≡ tallied (eqb (s .kind) 3) (s .engines) (gateIs g) (tallyIs t) → declaredIs (j .decisions) ≡ declaredIs (t .decisions)
+        → JudgementIs b j
+    unfolding judgeByTally
+    judged-so re t te j je de =
+        record {
+          judges =
+              je ∙ (rw (te .tallies, re, e, sheet .planned, laws.stopped-is v, laws.engines-are v) (sym (sheet-by-tally sheet squarings)));
+          declares = de ∙ te .marks ∙ declared-marks sheet;
+        }
 
 -- ---- the check's answer
 
-pub valid : (b : List ℕ) {c : Checked} {s : Sheet} → c ≡ checkedOf b → c ≡ checked.Sheet s → Valid b s
+pub valid : (b : List ℕ) {c : Checked} {s : Summary} → c ≡ checkedOf b → c ≡ checked.Accepted s → Valid b s
 valid b e f = let a = laws.accepted-sheet b (sym e ∙ f) in record { accepts = a .0; says = a .1 }
 
 module _ (b : List ℕ) {c : Checked} {f : Refusal} (e : c ≡ checkedOf b) (r : c ≡ checked.Refused f) where
@@ -43,76 +88,31 @@ module _ (b : List ℕ) {c : Checked} {f : Refusal} (e : c ≡ checkedOf b) (r :
   pub code-refused : f .number * 256 + f .place ≡ code (check pollutants b)
   code-refused = rw (laws.refused-sheet b (sym e ∙ r)) refl
 
--- ---- a decision's engine is among those tested
-
-abbrev Within : (n : ℕ) → rules.Series → Type 0
-Within n (rules.ongoing ss) = Unit {0}
-Within n (rules.passed m ss) = m ≤ n
-Within n (rules.failed m ground ss) = m ≤ n
-Within n (rules.referred m ss) = m ≤ n
-
-settled-within : (n : ℕ) (ss : List rules.Standing) → Within n (rules.settle n ss)
-unfolding rules.settle
-settled-within n ss = cases (any (λ s. rules.hasFailed (s .decision)) ss) (all (λ s. rules.hasPassed (s .decision)) ss)
-  where
-    cases : (a b : Bool) → Within n (rules.settleBy a b n ss)
-    cases true b = omega arith
-    cases false true = omega arith
-    cases false false = tt
-
-row-within : (b : rules.Before) (plan : plans.Plan) (q n : ℕ) (first : List Record) (ss : List rules.Standing) → Within n (rules.rowBy b plan q n first ss)
-row-within rules.early plan q n first ss = tt
-row-within rules.equalCause plan q n first ss = omega arith
-row-within rules.referral plan q n first ss = omega arith
-row-within rules.leftOpen plan q n first ss = tt
-row-within rules.statistics plan q n first ss = settled-within n _
-
-walk-within : (plan : plans.Plan) (ps : List Pollutant) (q n : ℕ) (first : List Record) (s : rules.Series) → Within n s → Within (suc n) (rules.walk plan ps q (suc n) first s)
-walk-within plan ps q n first (rules.ongoing ss) h = row-within (rules.beforeRow plan ps (suc n) first) plan q (suc n) first ss
-walk-within plan ps q n first (rules.passed m ss) h = omega arith
-walk-within plan ps q n first (rules.failed m ground ss) h = omega arith
-walk-within plan ps q n first (rules.referred m ss) h = omega arith
-
-after-within : (plan : plans.Plan) (ps : List Pollutant) (q : ℕ) (es : List Record) (n : ℕ) → Within n (rules.after plan ps q es n)
-unfolding rules.after
-after-within plan ps q es zero = tt
-after-within plan ps q es (suc n) = walk-within plan ps q n (take (suc n) es) (rules.after plan ps q es n) (after-within plan ps q es n)
-
-abbrev engineOf : rules.Answer → ℕ
-engineOf (rules.refusal number place) = 0
-engineOf (rules.judgement v n ground pairs) = n
-
-answer-within : (w : ℕ) (stop : Bool) (n : ℕ) (s : rules.Series) → Within n s → engineOf (rules.answer w stop n s) ≤ n
-answer-within w stop n (rules.passed m ss) h = h
-answer-within w stop n (rules.failed m ground ss) h = h
-answer-within w stop n (rules.referred m ss) h = h
-answer-within w true n (rules.ongoing ss) h = omega arith
-answer-within w false n (rules.ongoing ss) h = omega arith
-
 -- ---- judging and evidence of an accepted sheet
 
-module _ {b : List ℕ} {s : Sheet} (v : Valid b s) (j : Judgement) (e : judgementIs j ≡ rules.judgeRecords pollutants squarings (records pollutants b)) where
+module _ {b : List ℕ} {s : Summary} (v : Valid b s) (j : Judgement) (is : JudgementIs b j) where
   abbrev pairs : List rules.Pair
-  pairs = pairsIs (j .co) (j .hc) (j .nox) (j .pm)
+  pairs = pairsIs (j .decisions)
+
+  said : AcceptedSheet b (planOf (s .plan)) (s .head)
+  said = laws.accepted-so v
 
   pub judge-accepted : judgementIs j ≡ judge pollutants squarings b
-  unfolding judge
-  judge-accepted = rw (v .accepts) e
+  judge-accepted = is .judges ∙ sym (answers.judge-accepted pollutants squarings b (v .accepts))
 
-  engine-within : engineOf (judgementIs j) ≤ length (engines (records pollutants b))
-  unfolding rules.judgeRecords
-  engine-within =
-      let rs = records pollutants b in
-      rw e (answer-within pollutants (stopped rs) (length (engines rs)) (rules.after (plans.planOf (planNumber rs)) (declared rs) squarings (engines rs) (length (engines rs)))
-      (after-within (plans.planOf (planNumber rs)) (declared rs) squarings (engines rs) (length (engines rs))))
+  pub head-few : s .head < 1000
+  head-few = omega (arith, few said)
 
-  pub evidence-fits : evidenceLength (j .verdict) (length b) (s .pollutants) ≤ length b
-  evidence-fits = cases (j .verdict) engine-within
+  engine-tested : engineIn (judgementIs j) ≤ length (enginesIn b)
+  engine-tested = rw (is .judges) (engine-within pollutants squarings (records pollutants b))
+
+  pub evidence-fits : evidenceLength (j .verdict) (length b) (s .head) ≤ length b
+  evidence-fits = cases (j .verdict) engine-tested
     where
-      fits : (n : ℕ) → n ≤ length (engines (records pollutants b)) → recordSize * (s .pollutants + n) ≤ length b
-      fits n h = omega (arith, counts-fit v, engines-are v)
+      fits : (n : ℕ) → n ≤ length (enginesIn b) → recordSize * (s .head + n) ≤ length b
+      fits n h = omega (arith, inside said)
 
-      cases : (u : Verdict) → engineOf (verdictIs u pairs) ≤ length (engines (records pollutants b)) → evidenceLength u (length b) (s .pollutants) ≤ length b
+      cases : (u : Verdict) → engineIn (verdictIs u pairs) ≤ length (enginesIn b) → evidenceLength u (length b) (s .head) ≤ length b
       cases (Another n) h = omega arith
       cases (Pass n) h = fits n h
       cases (FailByRow n) h = fits n h
@@ -120,9 +120,9 @@ module _ {b : List ℕ} {s : Sheet} (v : Valid b s) (j : Judgement) (e : judgeme
       cases (FailByStop n) h = omega arith
       cases (Referred n) h = omega arith
 
-  pub evidence-accepted : take (evidenceLength (j .verdict) (length b) (s .pollutants)) b ≡ evidence pollutants squarings b
+  pub evidence-accepted : take (evidenceLength (j .verdict) (length b) (s .head)) b ≡ evidence pollutants squarings b
   unfolding evidence
-  evidence-accepted = rw (← judge-accepted, pollutants-are v) (cases (j .verdict))
+  evidence-accepted = rw (← judge-accepted, said .starts) (cases (j .verdict))
     where
       cases : (u : Verdict) → take (evidenceLength u (length b) (length (ofKind 1 (records pollutants b)))) b ≡ evidenceBy pollutants (verdictIs u pairs) b
       cases (Another n) = take-length b

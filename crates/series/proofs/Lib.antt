@@ -1,5 +1,3 @@
-pub mod Bounds
-pub mod Emitting
-pub mod Series
-pub mod Sheets
+pub mod Counting
+pub mod Looping
 pub mod Judging

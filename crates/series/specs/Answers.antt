@@ -1,73 +1,75 @@
 -- What judging answers, as document 01's numbers.
 use Prim.Native.Nat.{ℕ, _+_, _*_, _<_}
-use mathlib.Core.List.{List, [], _∷_}
-use Rattle.rules.specs.Sheet.{recordSize}
+use mathlib.Core.Path.{_≡_}
+use mathlib.Core.List.{List, map}
+use Rattle.rules.specs.Logarithm.{squarings}
+use Rattle.rules.specs.Sheet.{recordSize, pollutants, numbers, records, declared, declares}
 use Rattle.rules.specs.Series as rules
-use Rattle.standings.specs.declared.Decision.{Decision}
-use Rattle.standings.specs.Standing.{decisionIs}
-use Rattle.faults.specs.declared.Quantities.{Quantities}
-use Rattle.sheet.specs.declared.Refusal.{Refusal}
-use Rattle.sheet.specs.declared.Checked.{Checked}
-use Rattle.sheet.specs.declared.Checked.the-variants as checked
+use Rattle.checking.specs.declared.Refusal.{Refusal}
+use Rattle.checking.specs.declared.Checked.{Checked}
+use Rattle.checking.specs.declared.Checked.the-variants as checked
+use Rattle.decisions.specs.declared.Decisions.{Decisions}
+use Rattle.decisions.specs.Decisions.{decisionsIs, declaredIs}
 use Rattle.series.specs.declared.Verdict.{Verdict}
 use Rattle.series.specs.declared.Verdict.the-variants.{Another, Pass, FailByRow, FailByCause, FailByStop, Referred}
+use Rattle.series.specs.declared.Numbers.{Numbers}
 use Rattle.series.specs.declared.Judgement.{Judgement}
 use Rattle.series.specs.declared.Judged.{Judged}
 use Rattle.series.specs.declared.Judged.the-variants as judged
-use Rattle.series.specs.declared.JudgedWithLimits.{JudgedWithLimits}
-use Rattle.series.specs.declared.JudgedWithLimits.the-variants as limited
 
 -- "verdict (0 another, 1 pass, 2 fail, 3 referred), engine .., ground (0 none, 1 a row, 2 equal cause, 3 stopped, 4 referred)"
+abbrev pub numbersOf : Verdict → Numbers
+numbersOf (Another n) = record { verdict = 0; engine = n; ground = 0 }
+numbersOf (Pass n) = record { verdict = 1; engine = n; ground = 1 }
+numbersOf (FailByRow n) = record { verdict = 2; engine = n; ground = 1 }
+numbersOf (FailByCause n) = record { verdict = 2; engine = n; ground = 2 }
+numbersOf (FailByStop n) = record { verdict = 2; engine = n; ground = 3 }
+numbersOf (Referred n) = record { verdict = 3; engine = n; ground = 4 }
+
+abbrev pub numbersAnswer : Numbers → List rules.Pair → rules.Answer
+numbersAnswer n pairs = rules.judgement (n .verdict) (n .engine) (n .ground) pairs
+
 abbrev pub verdictIs : Verdict → List rules.Pair → rules.Answer
-verdictIs (Another n) pairs = rules.judgement 0 n 0 pairs
-verdictIs (Pass n) pairs = rules.judgement 1 n 1 pairs
-verdictIs (FailByRow n) pairs = rules.judgement 2 n 1 pairs
-verdictIs (FailByCause n) pairs = rules.judgement 2 n 2 pairs
-verdictIs (FailByStop n) pairs = rules.judgement 2 n 3 pairs
-verdictIs (Referred n) pairs = rules.judgement 3 n 4 pairs
+verdictIs v pairs = numbersAnswer (numbersOf v) pairs
 
 -- "and for each pollutant decision (0 open or undeclared, 1 pass, 2 fail) and engine (0 where the decision is 0)"
-abbrev pub pairsIs : (co hc nox pm : Decision) → List rules.Pair
-pairsIs co hc nox pm =
-    rules.pairOf (decisionIs co) ∷ rules.pairOf (decisionIs hc) ∷ rules.pairOf (decisionIs nox) ∷ rules.pairOf (decisionIs pm) ∷ []
+abbrev pub pairsIs : Decisions → List rules.Pair
+pairsIs ds = map rules.pairOf (decisionsIs ds)
 
 abbrev pub judgementIs : Judgement → rules.Answer
-judgementIs j = verdictIs (j .verdict) (pairsIs (j .co) (j .hc) (j .nox) (j .pm))
+judgementIs j = verdictIs (j .verdict) (pairsIs (j .decisions))
 
 abbrev pub judgedIs : Judged → rules.Answer
 judgedIs (judged.Judgement j) = judgementIs j
 judgedIs (judged.Refused r) = rules.refusal (r .number) (r .place)
 
+-- a decision tells whether its pollutant is declared on the sheet b
+abbrev pub DeclaresAs : List ℕ → Decisions → Type 0
+DeclaresAs b ds = declaredIs ds ≡ map (declares (declared (records pollutants b))) (numbers pollutants)
+
+abbrev pub DeclaredIs : List ℕ → Judged → Type 0
+DeclaredIs b (judged.Judgement j) = DeclaresAs b (j .decisions)
+DeclaredIs b (judged.Refused r) = Unit {0}
+
+-- the judgement of an accepted sheet
+pub record JudgementIs (b : List ℕ) (j : Judgement) : Type 0 where
+  pub judges : judgementIs j ≡ rules.judgeRecords pollutants squarings (records pollutants b)
+  pub declares : DeclaresAs b (j .decisions)
+
 -- the refusal in the check's answer; there is none in an accepted sheet's
 abbrev pub refusalIn : Checked → Refusal
 refusalIn (checked.Refused r) = r
-refusalIn (checked.Sheet s) = record { number = 0; place = 0 }
+refusalIn (checked.Accepted s) = record { number = 0; place = 0 }
 
--- an answer with limits, as the answer and as the limits: all 0 in a refusal, as those of a sheet that the check refuses
-abbrev pub judgedOf : JudgedWithLimits → Judged
-judgedOf (limited.Judgement j limits) = judged.Judgement j
-judgedOf (limited.Refused r) = judged.Refused r
+-- how many bytes are evidence for a verdict, of a sheet of so many bytes with so many records before its first engine
+abbrev pub evidenceLength : Verdict → (bytes head : ℕ) → ℕ
+evidenceLength (Another n) bytes head = bytes
+evidenceLength (Pass n) bytes head = recordSize * (head + n)
+evidenceLength (FailByRow n) bytes head = recordSize * (head + n)
+evidenceLength (FailByCause n) bytes head = recordSize * (head + n)
+evidenceLength (FailByStop n) bytes head = bytes
+evidenceLength (Referred n) bytes head = bytes
 
-abbrev pub noLimits : Quantities
-noLimits = record { co = 0; hc = 0; nox = 0; pm = 0 }
-
-abbrev pub limitsOf : JudgedWithLimits → Quantities
-limitsOf (limited.Judgement j limits) = limits
-limitsOf (limited.Refused r) = noLimits
-
-abbrev pub limitsIn : Checked → Quantities
-limitsIn (checked.Sheet s) = s .limits
-limitsIn (checked.Refused r) = noLimits
-
--- how many bytes are evidence for a verdict, of a sheet of so many bytes and pollutants
-abbrev pub evidenceLength : Verdict → (bytes pollutants : ℕ) → ℕ
-evidenceLength (Another n) bytes pollutants = bytes
-evidenceLength (Pass n) bytes pollutants = recordSize * (pollutants + n)
-evidenceLength (FailByRow n) bytes pollutants = recordSize * (pollutants + n)
-evidenceLength (FailByCause n) bytes pollutants = recordSize * (pollutants + n)
-evidenceLength (FailByStop n) bytes pollutants = bytes
-evidenceLength (Referred n) bytes pollutants = bytes
-
--- the pollutants of a sheet, of which there are at most 4
-pub record PollutantsRange (pollutants : ℕ) : Type 0 where
-  pub few : pollutants < 1000
+-- the records before the first engine, of which there are few
+pub record HeadRange (head : ℕ) : Type 0 where
+  pub few : head < 1000

@@ -1,2 +1,2 @@
 pub mod Answers
-pub mod Progress
+pub mod Tally

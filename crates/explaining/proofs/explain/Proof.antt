@@ -1,7 +1,7 @@
 -- `explain` meets its contract: the line of the check's refusal, and none for an accepted sheet.
 use mathlib.Core.Path.{sym, _∙_}
 use borrow.Author.Needs.{needs}
-use Rattle.sheet.proofs.Laws.{accepted-sheet, refused-sheet}
+use Rattle.checking.proofs.Laws.{accepted-sheet, refused-sheet}
 use Rattle.lines.specs.Writing.{room, nothing}
 use Rattle.lines.proofs.Written.{add-none, written}
 use Rattle.explaining.specs.Explanation.{explained}

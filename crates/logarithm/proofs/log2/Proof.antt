@@ -3,7 +3,7 @@ use mathlib.Core.Path.{sym, _∙_}
 use native.Mathlib.Omega.{arith}
 use lib.Count.{leadingZeros}
 use Rattle.rules.specs.Logarithm.{squarings}
-use Rattle.logarithm.proofs.Laws.{Placed, placed, logarithm-placed, ranges-placed, g-in, g-none, g-past}
+use Rattle.logarithm.proofs.Laws.{Placed, placed, ranges-placed, g-none, g-past, g-placed}
 use Rattle.logarithm.proofs.log2.Statement.{statement}
 use Rattle.logarithm.proofs.log2.Tie as tie
 
@@ -21,6 +21,4 @@ log2-spec =
     (λ c. omega (arith, inside c))
     (λ c. omega (arith, inside c))
     (λ c κs. ranges-placed (omega arith) (inside c))
-    (λ c.
-    c .squared .ensures ∙ logarithm-placed squarings (inside (c .before))
-    ∙ sym (g-in squarings (c .before .before .before .args .m) (omega arith) (omega arith))))
+    (λ c. c .squared .ensures ∙ g-placed squarings (omega arith) (omega arith) (inside (c .before))))

@@ -2,7 +2,7 @@
 use Prim.Native.Nat.{_+_, _-_, _≤_}
 use native.Mathlib.Omega.{arith}
 use Rattle.rules.specs.Logarithm.{bits}
-use Rattle.logarithm.proofs.Laws.{square-range, top-le, At, at-start, at-next, at-found, at-end}
+use Rattle.logarithm.proofs.Laws.{Fits, At, at-start, at-next, at-fits, at-end}
 use Rattle.logarithm.proofs.squared.Statement.{statement}
 use Rattle.logarithm.proofs.squared.Tie as tie
 
@@ -11,6 +11,9 @@ Inv-loop steps found x found₀ scaled₀ counter₀ found′ scaled counter = A
 
 abbrev μ-loop : tie.MeasureT-loop
 μ-loop steps found x found₀ scaled₀ counter₀ found′ scaled counter = steps - counter
+
+fits : (c : tie.In-loop Inv-loop μ-loop) → Fits (c .before .loop .bits) (c .before .loop .scaled)
+fits c = at-fits (omega arith) (c .before .loop .inv .0)
 
 loop-again : tie.Need-loop-again Inv-loop μ-loop
 loop-again c = (at-next (c .before .before .args .steps - (c .before .loop .counter + 1)) (omega arith) (c .before .loop .inv .0), omega arith)
@@ -22,13 +25,13 @@ squared-spec =
     Inv-loop
     μ-loop
     (λ c. (at-start (omega arith) (c .pre), omega arith))
-    (λ c. omega (arith, square-range (c .before .loop .scaled) (c .before .loop .inv .0 .scaled)))
-    (λ c. omega (arith, top-le (c .before .loop .scaled) (c .before .loop .inv .0 .scaled)))
-    (λ c. omega (arith, at-found (loop-again c .0)))
-    (λ c. omega (arith, at-found (loop-again c .0)))
-    (λ c. omega (arith, top-le (c .before .loop .scaled) (c .before .loop .inv .0 .scaled)))
-    (λ c. omega (arith, top-le (c .before .loop .scaled) (c .before .loop .inv .0 .scaled)))
-    (λ c. omega (arith, top-le (c .before .loop .scaled) (c .before .loop .inv .0 .scaled)))
+    (λ c. omega (arith, fits c))
+    (λ c. omega (arith, fits c))
+    (λ c. omega (arith, fits c))
+    (λ c. omega (arith, fits c))
+    (λ c. omega (arith, fits c))
+    (λ c. omega (arith, fits c))
+    (λ c. omega (arith, fits c))
     (λ c. omega arith)
     (λ c. omega arith)
     loop-again

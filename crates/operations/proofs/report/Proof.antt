@@ -18,7 +18,7 @@ report-spec =
     (λ c κs. search needs)
     (λ c.
     let g = c .before .before .before in
-    unreported _ _ (g .before .if1 .left) (g .judge .result) (g .judge .ensures) (c .before .enum-told .given .1) (c .judged-outcome .ensures))
+    unreported _ _ (g .before .if1 .left) (g .judge .result) (g .judge .ensures .0) (c .before .enum-told .given .1) (c .judged-outcome .ensures))
     (λ c κs. search needs)
     (λ c. search needs)
     (λ c κs. search needs)
@@ -26,5 +26,5 @@ report-spec =
     (λ c.
     let v = c .before .before .before .before .before in
     let g = v .before .before .before .before in
-    wrote _ _ (g .before .if1 .left) (g .judge .result) (g .judge .ensures) (v .before .before .judged .given .1)
+    wrote _ _ (g .before .if1 .left) (g .judge .result) (g .judge .ensures .0) (v .before .before .judged .given .1)
     (v .values .ensures) (c .before .before .copy .ensures .1)))

@@ -18,13 +18,19 @@ judgement-lines-spec =
     (λ c κs. search needs)
     (λ c κs. search needs)
     (λ c κs. search needs)
+    (λ c κs. search needs)
     (λ c.
     let d = c .before in
     let e = d .before in
     let f = e .before in
-    let a =
-    add-then (f .before .first-line .ensures)
-    (add-then (f .with-pollutant .ensures)
-    (add-then (e .with-pollutant2 .ensures) (add-then (d .with-pollutant3 .ensures) (add-then (c .with-pollutant4 .ensures) (add-none _ 0))))) in
-    at-most room a
-    (omega (arith, a .few, digit-length 1 (omega arith), digit-length 2 (omega arith), digit-length 3 (omega arith), digit-length 4 (omega arith)))))
+    let g = f .before in
+    let first = rw (g .before .numbers .ensures) at (g .first-line .ensures) in
+    let pm = add-then (c .with-pollutant4 .ensures) (add-none _ 0) in
+    let nox = add-then (d .with-pollutant3 .ensures) pm in
+    let hc = add-then (e .with-pollutant2 .ensures) nox in
+    let all = add-then first (add-then (f .with-pollutant .ensures) hc) in
+    let one = digit-length 1 (omega arith) in
+    let two = digit-length 2 (omega arith) in
+    let three = digit-length 3 (omega arith) in
+    let four = digit-length 4 (omega arith) in
+    at-most room all (omega (arith, all .few, one, two, three, four))))

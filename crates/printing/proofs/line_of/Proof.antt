@@ -24,5 +24,10 @@ line-of-spec =
     let g = f .before in
     let h = g .before in
     let s = h .before .before .before in
-    add-line _ _ _ (rw (h .before .nothing .ensures) at (h .with-word .ensures)) (g .with-byte .ensures) (f .with-number .ensures .adds) (e .with-byte2 .ensures) (d .with-number2 .ensures .adds) (c .with-byte3 .ensures)
-    (omega (arith, decimal-length 2 (s .args .a) (omega (arith, s .fits .a .fits)), decimal-length 2 (s .args .b) (omega (arith, s .fits .b .fits))))))
+    let word = rw (h .before .nothing .ensures) at (h .with-word .ensures) in
+    let a = f .with-number .ensures .adds in
+    let b = d .with-number2 .ensures .adds in
+    let few-a = decimal-length 2 (s .args .a) (omega (arith, s .fits .a .fits)) in
+    let few-b = decimal-length 2 (s .args .b) (omega (arith, s .fits .b .fits)) in
+    add-line _ _ _ word (g .with-byte .ensures) a (e .with-byte2 .ensures) b (c .with-byte3 .ensures)
+    (omega (arith, few-a, few-b))))

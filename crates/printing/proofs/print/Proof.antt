@@ -18,9 +18,9 @@ print-spec =
     (λ c κs. search needs)
     (λ c.
     let t = c .before .before .judged .given .1 in
-    let e = c .before .before .before .before .judge-with-limits .ensures in
-    subst (Written _) (printed-judgement _ _ _ (rw t at (e .0)) (rw t at (e .1))) (written (c .judgement-lines .ensures)))
+    let e = c .before .before .before .before .judge .ensures in
+    subst (Written _) (printed-judgement _ _ (rw t at (e .0)) (rw t at (e .1))) (written (c .judgement-lines .ensures)))
     (λ c.
     let t = c .before .before .judged2 .given .1 in
-    let e = c .before .before .before .before .judge-with-limits .ensures in
+    let e = c .before .before .before .before .judge .ensures in
     subst (Written _) (printed-refusal _ _ _ (rw t at (e .0))) (written (c .refusal-lines .ensures))))

@@ -22,5 +22,9 @@ with-decision-spec =
     let f = e .before in
     let g = f .before in
     let s = g .before .before .before in
-    add-line _ _ _ (g .before .with-number .ensures .adds) (g .with-byte .ensures) (f .with-word .ensures) (e .with-byte2 .ensures) (d .with-number2 .ensures .adds) (c .with-byte3 .ensures)
-    (omega (arith, decimal-length 2 (s .args .engine) (omega (arith, s .fits .engine .fits))))))
+    let p = g .before .with-number .ensures .adds in
+    let word = f .with-word .ensures in
+    let engine = d .with-number2 .ensures .adds in
+    let few = decimal-length 2 (s .args .engine) (omega (arith, s .fits .engine .fits)) in
+    add-line _ _ _ p (g .with-byte .ensures) word (e .with-byte2 .ensures) engine (c .with-byte3 .ensures)
+    (omega (arith, few))))

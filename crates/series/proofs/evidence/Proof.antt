@@ -2,8 +2,7 @@
 use mathlib.Core.Path.{refl, sym}
 use native.Mathlib.Omega.{arith}
 use lib.Seq.{length-take-le}
-use Rattle.series.proofs.Sheets.{few}
-use Rattle.series.proofs.Judging.{valid, evidence-refused, code-refused, evidence-fits, evidence-accepted}
+use Rattle.series.proofs.Judging.{valid, evidence-refused, code-refused, head-few, evidence-fits, evidence-accepted}
 use borrow.Author.Needs.{needs}
 use Rattle.series.proofs.evidence.Statement.{statement}
 use Rattle.series.proofs.evidence.Tie as tie
@@ -24,9 +23,14 @@ evidence-spec =
     let t = k .enum-told .given .1 in
     (evidence-refused _ e t, rw (c .before .code .ensures, c .before .before .refusal .ensures, t) (code-refused _ e t)))
     (λ c κs. valid _ (c .before .before .before .check .ensures) (c .before .checked .given .1))
-    (λ c κs. omega (arith, few (valid _ (c .before .before .before .before .check .ensures) (c .before .before .checked .given .1))))
-    (λ c. let w = c .before .before in
-    sym (length-take-le _ _ (rw (c .before .evidence-length .ensures) (evidence-fits (valid _ (w .before .before .before .before .check .ensures) (w .before .before .checked .given .1)) (w .walk .result) (w .walk .ensures)))))
-    (λ c. let w = c .before .before in
+    (λ c κs.
+    let v = valid _ (c .before .before .before .before .check .ensures) (c .before .before .checked .given .1) in
+    record { few = head-few v (c .judgement-of .result) (c .judgement-of .ensures) })
+    (λ c.
+    let w = c .before .before in
     let v = valid _ (w .before .before .before .before .check .ensures) (w .before .before .checked .given .1) in
-    (rw (c .before .evidence-length .ensures) (evidence-accepted v (w .walk .result) (w .walk .ensures)), rw (v .accepts) refl)))
+    sym (length-take-le _ _ (rw (c .before .evidence-length .ensures) (evidence-fits v (w .judgement-of .result) (w .judgement-of .ensures)))))
+    (λ c.
+    let w = c .before .before in
+    let v = valid _ (w .before .before .before .before .check .ensures) (w .before .before .checked .given .1) in
+    (rw (c .before .evidence-length .ensures) (evidence-accepted v (w .judgement-of .result) (w .judgement-of .ensures)), rw (v .accepts) refl)))

@@ -1,4 +1,4 @@
--- `judge` meets its contract: the check's refusal, or the walk over an accepted sheet.
+-- `judge` meets its contract: the check's refusal, or the judgement of an accepted sheet.
 use Rattle.series.proofs.Judging.{valid, judge-refused, judge-accepted}
 use borrow.Author.Needs.{needs}
 use Rattle.series.proofs.judge.Statement.{statement}
@@ -12,6 +12,8 @@ judge-spec =
     (λ c. search needs)
     (λ c. search needs)
     (λ c κs. search needs)
-    (λ c. rw (c .refusal .ensures, c .before .enum-told .given .1) (judge-refused _ (c .before .before .before .check .ensures) (c .before .enum-told .given .1)))
+    (λ c. (rw (c .refusal .ensures, c .before .enum-told .given .1) (judge-refused _ (c .before .before .before .check .ensures) (c .before .enum-told .given .1)), tt))
     (λ c κs. valid _ (c .before .before .before .check .ensures) (c .before .checked .given .1))
-    (λ c. judge-accepted (valid _ (c .before .before .before .before .check .ensures) (c .before .before .checked .given .1)) (c .walk .result) (c .walk .ensures)))
+    (λ c.
+    let v = valid _ (c .before .before .before .before .check .ensures) (c .before .before .checked .given .1) in
+    (judge-accepted v (c .judgement-of .result) (c .judgement-of .ensures), c .judgement-of .ensures .declares)))

@@ -18,4 +18,6 @@ engine-fault-spec =
     (λ c. search chain depth 9)
     (λ c κs. search needs)
     (λ c. search chain depth 9)
+    (λ c κs. search needs)
+    (λ c. search chain depth 9)
     (λ c. search chain depth 9))

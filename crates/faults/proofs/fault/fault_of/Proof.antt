@@ -11,13 +11,10 @@ fault-of-spec =
     tie.close
     (tie.spec
     (λ c κs. search needs)
+    (λ c κs. search needs)
+    (λ c κs. search needs)
+    (λ c κs. search needs)
     (λ c. search chain depth 9)
-    (λ c κs. search needs)
-    (λ c. search chain depth 9)
-    (λ c κs. search needs)
-    (λ c κs. search needs)
-    (λ c κs. search needs)
-    (λ c κs. search needs)
     (λ c. search chain depth 9)
     (λ c. search chain depth 9)
     (λ c. search chain depth 9))

@@ -20,4 +20,6 @@ pollutant-fault-spec =
     (λ c. search chain depth 9)
     (λ c κs. search needs)
     (λ c. search chain depth 9)
+    (λ c κs. search needs)
+    (λ c. search chain depth 9)
     (λ c. search chain depth 9))

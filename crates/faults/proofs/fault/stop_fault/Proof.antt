@@ -10,6 +10,8 @@ unfolding stopFault
 stop-fault-spec =
     tie.close
     (tie.spec
+    (λ c κs. search needs)
+    (λ c. search chain depth 9)
     (λ c. search chain depth 9)
     (λ c κs. search needs)
     (λ c. search chain depth 9)

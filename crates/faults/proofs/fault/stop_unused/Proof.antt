@@ -6,4 +6,13 @@ use Rattle.faults.proofs.fault.stop_unused.Tie as tie
 
 pub stop-unused-spec : {M : Type 1} → statement M
 unfolding stopUnused
-stop-unused-spec = tie.close (tie.spec (λ c κs. search needs) (λ c κs. search needs) (λ c κs. search needs) (λ c κs. search needs) (λ c κs. search needs) (λ c κs. search needs) (λ c. cc))
+stop-unused-spec =
+    tie.close
+    (tie.spec
+    (λ c κs. search needs)
+    (λ c κs. search needs)
+    (λ c κs. search needs)
+    (λ c κs. search needs)
+    (λ c κs. search needs)
+    (λ c κs. search needs)
+    (λ c. cc))

@@ -1,0 +1,9 @@
+pub mod Cut
+pub mod Gates
+pub mod Walk
+pub mod Rows
+pub mod ByColumns
+pub mod Numbers
+pub mod Tally
+pub mod Marks
+pub mod Sheets

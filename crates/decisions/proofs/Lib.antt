@@ -1,0 +1,4 @@
+pub mod Placing
+pub mod Sums
+pub mod Places
+pub mod Going

@@ -1,0 +1,4 @@
+pub mod Decisions
+pub mod Column
+pub mod Fours
+pub mod Ranges

@@ -1,0 +1,173 @@
+// A pollutant's decision, from its column of the sheet: its limit, and its measurements engine after engine to the row that decides.
+ghost use mathlib.Core.Path.{_≡_};
+ghost use mathlib.Core.Bool.{cond};
+ghost use mathlib.Core.List.{map};
+ghost use Rattle.rules.specs.Series.{pairOf};
+ghost use Rattle.columns.specs.Columns.{upTo};
+ghost use Rattle.decisions.specs.Decisions.{decisionIs, isDeclared, pairIs};
+ghost use Rattle.decisions.specs.Decisions.{noDecisions, decisionsWith, decisionsIs, declaredIs};
+ghost use Rattle.decisions.specs.Column.{ColumnIs, takesLogarithms};
+ghost use Rattle.decisions.specs.Ranges.{ColumnRange};
+
+mod count;
+mod fours;
+mod logarithms;
+
+use plan::Plan;
+
+// What is said of a pollutant, with the engine where there is one.
+pub enum Decision {
+    Undeclared,
+    Open,
+    Passed(u8),
+    Failed(u8),
+}
+
+// "decision (0 open or undeclared, 1 pass, 2 fail) and engine (0 where the decision is 0)"
+pub struct Pair {
+    pub decision: u8,
+    pub engine: u8,
+}
+
+impl Decision {
+    // The decision as document 01's two numbers, for the report.
+    pub fn pair(self) -> Pair
+        ensures { λ p. ⌜ pairIs p ≡ pairOf (decisionIs self) ⌝ }
+    {
+        match self {
+            Decision::Undeclared => Pair {
+                decision: 0,
+                engine: 0,
+            },
+            Decision::Open => Pair {
+                decision: 0,
+                engine: 0,
+            },
+            Decision::Passed(n) => Pair {
+                decision: 1,
+                engine: n,
+            },
+            Decision::Failed(n) => Pair {
+                decision: 2,
+                engine: n,
+            },
+        }
+    }
+
+    // What is left of it in the rows to m.
+    fn up_to(self, m: u8) -> Decision
+        ensures { λ d. ⌜ (decisionIs d ≡ upTo m (decisionIs self)) × (isDeclared d ≡ isDeclared self) ⌝ }
+    {
+        match self {
+            Decision::Undeclared => Decision::Undeclared,
+            Decision::Open => Decision::Open,
+            Decision::Passed(n) => {
+                if n <= m {
+                    Decision::Passed(n)
+                } else {
+                    Decision::Open
+                }
+            }
+            Decision::Failed(n) => {
+                if n <= m {
+                    Decision::Failed(n)
+                } else {
+                    Decision::Open
+                }
+            }
+        }
+    }
+}
+
+// A decision for each pollutant, "carbon monoxide, hydrocarbons, nitrogen oxides, particulates".
+pub struct Decisions {
+    pub co: Decision,
+    pub hc: Decision,
+    pub nox: Decision,
+    pub pm: Decision,
+}
+
+fn chosen(test: bool, a: Decision, b: Decision) -> Decision
+    ensures { λ d. ⌜ d ≡ cond test a b ⌝ }
+{
+    if test { a } else { b }
+}
+
+impl Decisions {
+    // No pollutant is declared.
+    pub fn none() -> Decisions
+        ensures { λ r. ⌜ r ≡ noDecisions ⌝ }
+    {
+        Decisions {
+            co: Decision::Undeclared,
+            hc: Decision::Undeclared,
+            nox: Decision::Undeclared,
+            pm: Decision::Undeclared,
+        }
+    }
+
+    // With the decision d for the pollutant of that number.
+    pub fn with(self, number: u32, d: Decision) -> Decisions
+        ensures { λ r. ⌜ r ≡ decisionsWith number d self ⌝ }
+    {
+        let co = self.co;
+        let hc = self.hc;
+        let nox = self.nox;
+        let pm = self.pm;
+        Decisions {
+            co: chosen(number == 1, d, co),
+            hc: chosen(number == 2, d, hc),
+            nox: chosen(number == 3, d, nox),
+            pm: chosen(number == 4, d, pm),
+        }
+    }
+
+    // What is left of them in the rows to m.
+    pub fn up_to(self, m: u8) -> Decisions
+        ensures { λ r. ⌜ (decisionsIs r ≡ map (upTo m) (decisionsIs self)) × (declaredIs r ≡ declaredIs self) ⌝ }
+    {
+        let co = self.co;
+        let hc = self.hc;
+        let nox = self.nox;
+        let pm = self.pm;
+        Decisions {
+            co: co.up_to(m),
+            hc: hc.up_to(m),
+            nox: nox.up_to(m),
+            pm: pm.up_to(m),
+        }
+    }
+}
+
+// Plan 3 counts the engines over the limit, and the others take logarithms.
+fn takes_logarithms(plan: Plan) -> bool
+    ensures { λ b. ⌜ b ≡ takesLogarithms plan ⌝ }
+{
+    match plan {
+        Plan::KnownDeviation => true,
+        Plan::UnknownDeviation => true,
+        Plan::Attributes => false,
+        Plan::InService => true,
+    }
+}
+
+// The decision of a pollutant after the rows to `rows`, none of which ends the series before its statistics.
+// For `series` alone, with a declared pollutant of a sheet that the check accepts: so it may require.
+pub fn column(
+    bytes: &[u8],
+    start: usize,
+    plan: Plan,
+    number: u32,
+    limit: u32,
+    deviation: u32,
+    rows: usize,
+) -> Decision
+    requires { ⌜ ColumnRange (now bytes) start plan number limit deviation rows ⌝ }
+    ensures { λ d. ⌜ ColumnIs plan (now (bytes .entry)) number limit deviation rows d ⌝ }
+{
+    if takes_logarithms(plan) {
+        logarithms::column(bytes, start, plan, number, limit, deviation, rows)
+    } else {
+        count::column(bytes, start, number, limit, rows)
+    }
+}

@@ -1,9 +1,0 @@
--- The cause is the number at the bytes that document 01 names.
-use Rattle.rules.specs.Sheet.{cause}
-use borrow.Author.Needs.{needs}
-use Rattle.faults.proofs.field.cause_of.Statement.{statement}
-use Rattle.faults.proofs.field.cause_of.Tie as tie
-
-pub cause-of-spec : {M : Type 1} → statement M
-unfolding cause
-cause-of-spec = tie.close (tie.spec (λ c κs. search needs) (λ c. search needs))

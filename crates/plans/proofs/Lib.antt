@@ -1,5 +1,0 @@
-pub mod KnownTests
-pub mod RootTests
-pub mod UnknownTable
-pub mod Sums
-pub mod Rows

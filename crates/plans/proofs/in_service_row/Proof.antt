@@ -1,8 +1,0 @@
--- `in_service_row` meets its contract: the decision by the plan's two tests.
-use borrow.Author.Needs.{needs}
-use Rattle.plans.proofs.in_service_row.Statement.{statement}
-use Rattle.plans.proofs.in_service_row.Tie as tie
-
-pub in-service-row-spec : {M : Type 1} → statement M
-in-service-row-spec =
-    tie.close (tie.spec (λ c κs. search needs) (λ c. search needs) (λ c κs. search needs) (λ c κs. search needs) (λ c. cc))

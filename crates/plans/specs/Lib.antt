@@ -1,3 +1,0 @@
-pub mod Row
-pub mod Ranges
-pub mod Sums

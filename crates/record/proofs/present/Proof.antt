@@ -1,0 +1,13 @@
+-- The byte that is read is the definition's, since the record has it.
+use native.Mathlib.Omega.{arith}
+use borrow.Author.Needs.{needs}
+use Rattle.record.proofs.present.Statement.{statement}
+use Rattle.record.proofs.present.Tie as tie
+
+pub present-spec : {M : Type 1} → statement M
+present-spec =
+    tie.close
+    (tie.spec
+    (λ c. search needs)
+    (λ c. omega (arith, c .shared-slice-known .given (c .before .args .i)))
+    (λ c. let h = c .shared-slice-known .given (c .before .args .i) in search needs))

@@ -1,0 +1,16 @@
+-- The part is a record's bytes, behind those of k records.
+use native.Mathlib.Nat.{add-sub-cancel-left}
+use borrow.Author.Needs.{needs}
+use Rattle.record.proofs.record_at.Statement.{statement}
+use Rattle.record.proofs.record_at.Tie as tie
+
+pub record-at-spec : {M : Type 1} → statement M
+record-at-spec =
+    tie.close
+    (tie.spec
+    (λ c. search needs)
+    (λ c. search needs)
+    (λ c. search needs)
+    (λ c. search needs)
+    (λ c. search needs)
+    (λ c. rw add-sub-cancel-left))

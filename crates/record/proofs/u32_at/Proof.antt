@@ -1,0 +1,40 @@
+-- Two numbers of two bytes are one of four.
+use Prim.Native.Nat.{ℕ}
+use native.Mathlib.Nat.{add-assoc}
+use native.Mathlib.Omega.{arith}
+use mathlib.Core.Path.{ap}
+use Rattle.rules.specs.Tools.{byte}
+use borrow.Author.Needs.{needs}
+use Rattle.record.proofs.u32_at.Statement.{statement}
+use Rattle.record.proofs.u32_at.Tie as tie
+
+past-the-end : tie.Need-returns-2
+past-the-end c =
+    let a = c .before .before .before .before .args in
+    omega (arith, ap (λ (k : ℕ). byte (a .r .now) k) (add-assoc (a .i) 2 1))
+
+pub u32-at-spec : {M : Type 1} → statement M
+u32-at-spec =
+    tie.close
+    (tie.spec
+    (λ c. search needs)
+    (λ c κs. search needs)
+    (λ c. search needs)
+    (λ c κs. search needs)
+    (λ c. search needs)
+    (λ c. search needs)
+    (λ c. search needs)
+    (λ c κs. search needs)
+    (λ c. search needs)
+    (λ c κs. search needs)
+    (λ c. search needs)
+    (λ c. search needs)
+    (λ c. search needs)
+    (λ c. search needs)
+    (λ c κs. search needs)
+    (λ c. search needs)
+    (λ c κs. search needs)
+    (λ c. search needs)
+    (λ c. search needs)
+    (λ c. search needs)
+    past-the-end)

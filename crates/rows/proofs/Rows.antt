@@ -1,0 +1,38 @@
+-- A row of the definition from the sums that the program makes, for every number q of squarings: by the definitions of the sums, and from
+-- numbers equal to them.
+use mathlib.Core.Path.{_≡_, refl}
+use mathlib.Core.List.{List}
+use Prim.Native.Nat.{ℕ, _-_, _*_}
+use lib.Dec.{eqb}
+use lib.ListN.{length}
+use lib.IntN.{ℤ, pos, _-ℤ_}
+use Rattle.rules.specs.Logarithm.{g}
+use Rattle.rules.specs.Plans.{knownDeviation, unknownDeviation, attributes, inService, lastRow, row, rowPasses, rowFails, decide, knownPasses, knownFails, rootPasses, rootFails, unknownNumbers, inServiceNumbers, attributesPasses, attributesFails, countOver}
+use Rattle.rows.specs.Sums.{sumG, squaresG}
+use Rattle.rows.proofs.Sums.{D-is, W-is}
+
+module _ (q L t : ℕ) (xs : List ℕ) where
+  abbrev n : ℕ
+  n = length xs
+
+  abbrev D : ℤ
+  D = pos (sumG q xs) -ℤ pos (length xs * g q L)
+
+  abbrev W : ℤ
+  W = pos (length xs * squaresG q xs - sumG q xs * sumG q xs)
+
+  pub known-row-is : row knownDeviation q n L t xs ≡ decide (knownPasses q n D t) (eqb n (lastRow knownDeviation)) (knownFails q n D t)
+  unfolding row rowPasses rowFails
+  known-row-is = rw (D-is q L xs)
+
+  pub unknown-row-is : row unknownDeviation q n L t xs ≡ decide (rootPasses (unknownNumbers n .A) D W) (eqb n (lastRow unknownDeviation)) (rootFails (unknownNumbers n .B) D W)
+  unfolding row rowPasses rowFails
+  unknown-row-is = rw (W-is q L xs, D-is q L xs)
+
+  pub attributes-row-is : row attributes q n L t xs ≡ decide (attributesPasses n (countOver L xs)) (eqb n (lastRow attributes)) (attributesFails n (countOver L xs))
+  unfolding row rowPasses rowFails
+  attributes-row-is = refl
+
+  pub in-service-row-is : row inService q n L t xs ≡ decide (rootPasses (inServiceNumbers n .A) D W) (eqb n (lastRow inService)) (rootFails (inServiceNumbers n .B) D W)
+  unfolding row rowPasses rowFails
+  in-service-row-is = rw (W-is q L xs, D-is q L xs)

@@ -1,0 +1,4 @@
+pub mod Row
+pub mod Ranges
+pub mod Tables
+pub mod Sums

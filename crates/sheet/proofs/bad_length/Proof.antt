@@ -1,9 +1,0 @@
--- The test is the definition's, part by part.
-use mathlib.Core.Path.{refl}
-use Rattle.rules.specs.Refusals.{badLength}
-use Rattle.sheet.proofs.bad_length.Statement.{statement}
-use Rattle.sheet.proofs.bad_length.Tie as tie
-
-pub bad-length-spec : {M : Type 1} → statement M
-unfolding badLength
-bad-length-spec = tie.close (tie.spec (λ c. refl))
