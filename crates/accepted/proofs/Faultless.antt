@@ -1,17 +1,17 @@
 -- The records of an accepted sheet, each of which has no fault after those before it.
-use Prim.Native.Nat.{ℕ, zero, suc, _*_, _%_, _≤_}
-use native.Mathlib.Omega.{arith}
-use mathlib.Core.Path.{_≡_, refl, sym, _∙_}
-use mathlib.Core.Bool.{Bool, true, false, not, _&&_, _||_, cond}
-use mathlib.Core.List.{List, [], _∷_, _++_, append-assoc, append-nil}
-use lib.Dec.{eqb, leb, ltb}
-use lib.ListN.{length}
-use borrow.Author.Tests.{eqb-true, eqb-false, not-false, ne-eqb, leb-true, ltb-false}
+use Rattle.arithmetic.proofs.Basics.{ℕ, zero, suc, _*_, _%_, _≤_, arith, _≡_, refl, sym, _∙_, Bool, true, false, not, _&&_, _||_, cond, List, [], _∷_, _++_}
+use Rattle.arithmetic.proofs.Basics.{append-assoc, append-nil, eqb, leb, ltb, length, eqb-true, eqb-false, not-false, ne-eqb, leb-true, lt-leb, ltb-false}
+use Rattle.arithmetic.proofs.Basics.{never, or-false, and-true, and-left, and-right, and-never, by-test, any-left, those-append}
 use Rattle.rules.specs.Tools.{any, within}
-use Rattle.rules.specs.Sheet.{Record, size, most, records, kind, ofKind, planNumber, declared, stopped}
-use Rattle.rules.specs.Refusals.{misplaced, badNumber, badPlan, badLimit, badDeviation, badMeasurement, badCause, tooMany, Fault, fault, first, faults, faultOf, Check, accepted, refused, checkFrom, badLength, check}
-use Rattle.arithmetic.proofs.Booleans.{never, or-false, and-true, and-left}
-use Rattle.arithmetic.proofs.Lists.{any-left, those-append}
+use Rattle.rules.specs.Sheet.{Record, size, most, records, pollutantKind, engineKind, stopKind, kind, ofKind, planNumber, declared, stopped}
+use Rattle.rules.specs.Refusals.{misplaced, badNumber, badPlan, badLimit, badDeviation, badMeasurement, badCause, tooMany, Fault, fault, first, faults, faultOf}
+use Rattle.rules.specs.Refusals.{Check, accepted, refused, checkFrom, badLength, check}
+
+-- a number that is not outside a range
+pub in-range : (lo hi x : ℕ) → not (within lo hi x) ≡ false → (lo ≤ x) × (x ≤ hi)
+in-range lo hi x e =
+    let t = and-true (leb lo x) (leb x hi) (not-false (within lo hi x) e) in
+    (leb-true lo x (t .0), leb-true x hi (t .1))
 
 -- ---- each record has no fault after those before it
 
@@ -22,20 +22,21 @@ Clean w before (r ∷ rs) = (faultOf w before r ≡ 0) × Clean w (before ++ (r 
 pub clean-of : (w : ℕ) (before rs : List Record) → checkFrom w before rs ≡ accepted → Clean w before rs
 unfolding checkFrom
 clean-of w before [] e = tt
-clean-of w before (r ∷ rs) e = cases (eqb (faultOf w before r) 0) refl e (clean-of w (before ++ (r ∷ [])) rs)
-  where
-    cases : (b : Bool) → eqb (faultOf w before r) 0 ≡ b
-        → cond b (checkFrom w (before ++ (r ∷ [])) rs) (refused (faultOf w before r) (length before)) ≡ accepted
-        → (checkFrom w (before ++ (r ∷ [])) rs ≡ accepted → Clean w (before ++ (r ∷ [])) rs)
-        → (faultOf w before r ≡ 0) × Clean w (before ++ (r ∷ [])) rs
-    cases true h f i = (eqb-true (faultOf w before r) 0 h, i f)
-    cases false h f i = let z : true ≡ false = cc in never z
+clean-of w before (r ∷ rs) e =
+    let n = faultOf w before r in
+    let after = checkFrom w (before ++ (r ∷ [])) rs in
+    by-test (λ t. cond t after (refused n (length before)) ≡ accepted → Clean w before (r ∷ rs)) (eqb n 0)
+    (λ h f. (eqb-true n 0 h, clean-of w (before ++ (r ∷ [])) rs f)) (λ h f. let z : true ≡ false = cc in never z) e
 
 pub clean-append : (w : ℕ) (before rs ts : List Record) → Clean w before (rs ++ ts) → Clean w before rs × Clean w (before ++ rs) ts
 clean-append w before [] ts c = (tt, rw append-nil c)
 clean-append w before (r ∷ rs) ts c =
     let p = clean-append w (before ++ (r ∷ [])) rs ts (c .1) in
     ((c .0, p .0), rw append-assoc at (p .1))
+
+pub clean-join : (w : ℕ) (before rs ts : List Record) → Clean w before rs → Clean w (before ++ rs) ts → Clean w before (rs ++ ts)
+clean-join w before [] ts c d = rw append-nil at d
+clean-join w before (r ∷ rs) ts c d = (c .0, clean-join w (before ++ (r ∷ [])) rs ts (c .1) (rw append-assoc d))
 
 -- the check passes over records that have no fault
 pub check-clean : (w : ℕ) (before rs ts : List Record) → Clean w before rs → checkFrom w before (rs ++ ts) ≡ checkFrom w (before ++ rs) ts
@@ -74,90 +75,87 @@ sound w b e =
 
 abbrev None : List Fault → Type 0
 None [] = Unit {0}
-None (fault k b ∷ fs) = (b ≡ false) × None fs
+None (fault zero b ∷ fs) = Unit {0}
+None (fault (suc k) b ∷ fs) = (b ≡ false) × None fs
 
-abbrev Positive : List Fault → Type 0
-Positive [] = Unit {0}
-Positive (fault zero b ∷ fs) = ⊥
-Positive (fault (suc k) b ∷ fs) = Positive fs
-
-none : (fs : List Fault) → Positive fs → first fs ≡ 0 → None fs
-none [] p e = tt
-none (fault zero b ∷ fs) p e = absurd p
-none (fault (suc k) true ∷ fs) p e = absurd (omega arith)
-none (fault (suc k) false ∷ fs) p e = (refl, none fs p e)
+none : (fs : List Fault) → first fs ≡ 0 → None fs
+none [] e = tt
+none (fault zero b ∷ fs) e = tt
+none (fault (suc k) true ∷ fs) e = absurd (omega arith)
+none (fault (suc k) false ∷ fs) e = (refl, none fs e)
 
 pub record Faultless (w : ℕ) (before : List Record) (r : Record) : Type 0 where
-  pub kinds : not (within 1 3 (kind r)) ≡ false
+  pub kinds : not (within pollutantKind stopKind (kind r)) ≡ false
   pub placed : misplaced before r ≡ false
-  pub numbered : eqb (kind r) 1 && badNumber w before r ≡ false
-  pub planned : eqb (kind r) 1 && badPlan before r ≡ false
-  pub limited : eqb (kind r) 1 && badLimit r ≡ false
-  pub deviating : eqb (kind r) 1 && badDeviation r ≡ false
-  pub measured : eqb (kind r) 2 && badMeasurement w (declared before) r ≡ false
-  pub caused : eqb (kind r) 2 && badCause (planNumber before) (declared before) r ≡ false
-  pub counted : eqb (kind r) 2 && tooMany before ≡ false
+  pub numbered : eqb (kind r) pollutantKind ≡ true → badNumber w before r ≡ false
+  pub planned : eqb (kind r) pollutantKind ≡ true → badPlan before r ≡ false
+  pub limited : eqb (kind r) pollutantKind ≡ true → badLimit r ≡ false
+  pub deviating : eqb (kind r) pollutantKind ≡ true → badDeviation r ≡ false
+  pub measured : eqb (kind r) engineKind ≡ true → badMeasurement w (declared before) r ≡ false
+  pub caused : eqb (kind r) engineKind ≡ true → badCause (planNumber before) (declared before) r ≡ false
+  pub counted : eqb (kind r) engineKind ≡ true → tooMany before ≡ false
 
 pub faultless : (w : ℕ) (before : List Record) (r : Record) → faultOf w before r ≡ 0 → Faultless w before r
 unfolding faultOf faults
 faultless w before r e =
-    let p : None (faults w before r) = none (faults w before r) tt e in
+    let p : None (faults w before r) = none (faults w before r) e in
+    let of-pollutants = p .1 .1 in
+    let of-engines = of-pollutants .1 .1 .1 .1 in
     record {
       kinds = p .0;
       placed = p .1 .0;
-      numbered = p .1 .1 .0;
-      planned = p .1 .1 .1 .0;
-      limited = p .1 .1 .1 .1 .0;
-      deviating = p .1 .1 .1 .1 .1 .0;
-      measured = p .1 .1 .1 .1 .1 .1 .0;
-      caused = p .1 .1 .1 .1 .1 .1 .1 .0;
-      counted = p .1 .1 .1 .1 .1 .1 .1 .1 .0;
+      numbered = and-right _ _ (of-pollutants .0);
+      planned = and-right _ _ (of-pollutants .1 .0);
+      limited = and-right _ _ (of-pollutants .1 .1 .0);
+      deviating = and-right _ _ (of-pollutants .1 .1 .1 .0);
+      measured = and-right _ _ (of-engines .0);
+      caused = and-right _ _ (of-engines .1 .0);
+      counted = and-right _ _ (of-engines .1 .1 .0);
     }
 
 -- ---- the order of the kinds
 
-pub kind-range : {w : ℕ} {before : List Record} {r : Record} → Faultless w before r → (1 ≤ kind r) × (kind r ≤ 3)
-kind-range {r = r} f =
-    let t = and-true (leb 1 (kind r)) (leb (kind r) 3) (not-false (within 1 3 (kind r)) (f .kinds)) in
-    (leb-true 1 (kind r) (t .0), leb-true (kind r) 3 (t .1))
+pub by-kind : {X : Type 0} (k : ℕ) → (k ≡ pollutantKind → X) → (k ≡ engineKind → X) → (k ≡ stopKind → X)
+    → (((n : ℕ) → 1 ≤ n → n ≤ stopKind → eqb k n ≡ false) → within pollutantKind stopKind k ≡ false → X) → X
+by-kind zero one two three other = other (λ n l u. ne-eqb 0 n (λ z. omega arith)) refl
+by-kind (suc zero) one two three other = one refl
+by-kind (suc (suc zero)) one two three other = two refl
+by-kind (suc (suc (suc zero))) one two three other = three refl
+by-kind (suc (suc (suc (suc k)))) one two three other =
+    let m = suc (suc (suc (suc k))) in
+    other (λ n l u. ne-eqb m n (λ z. omega arith)) (rw (lt-leb m stopKind (omega arith)) (and-never (leb pollutantKind m)))
 
 abbrev pub isOther : Record → Bool
-isOther r = not (eqb (kind r) 1)
+isOther r = not (eqb (kind r) pollutantKind)
 
 pub ofKind-append : (k : ℕ) (rs ts : List Record) → ofKind k (rs ++ ts) ≡ ofKind k rs ++ ofKind k ts
 unfolding ofKind
 ofKind-append k rs ts = those-append (λ r. eqb (kind r) k) rs ts
 
-misplaced-kind : (before : List Record) (r : Record) → any isOther before ≡ true → misplaced before r ≡ false → eqb (kind r) 1 ≡ false
+-- a pollutant stands after pollutants alone, and nothing after a stop
+pub placed-so : (before : List Record) (r : Record) → misplaced before r ≡ false
+    → (eqb (kind r) pollutantKind && any isOther before ≡ false) × (stopped before ≡ false)
 unfolding misplaced
-misplaced-kind [] r a f = cc
-misplaced-kind (b ∷ bs) r a f = and-left (eqb (kind r) 1) (any isOther (b ∷ bs)) (or-false _ _ f .0) a
-
-misplaced-stop : {X : Type 0} (before : List Record) (r : Record) → stopped before ≡ true → misplaced before r ≡ false → X
-unfolding misplaced
-misplaced-stop [] r a f = let z : true ≡ false = cc in never z
-misplaced-stop (b ∷ bs) r a f = let s = or-false (eqb (kind r) 1 && any isOther (b ∷ bs)) (stopped (b ∷ bs)) f .1 in never (sym a ∙ s)
+placed-so [] r e = (and-never (eqb (kind r) pollutantKind), refl)
+placed-so (b ∷ bs) r e = or-false _ _ e
 
 -- after a record of another kind there is no pollutant
-pub no-pollutants : (w : ℕ) (before rs : List Record) → any isOther before ≡ true → Clean w before rs → ofKind 1 rs ≡ []
+pub no-pollutants : (w : ℕ) (before rs : List Record) → any isOther before ≡ true → Clean w before rs → ofKind pollutantKind rs ≡ []
 unfolding ofKind
 no-pollutants w before [] a c = refl
 no-pollutants w before (r ∷ rs) a c =
-    rw (misplaced-kind before r a (faultless w before r (c .0) .placed))
+    rw (and-left (eqb (kind r) pollutantKind) (any isOther before) (placed-so before r (faultless w before r (c .0) .placed) .0) a)
     (no-pollutants w (before ++ (r ∷ [])) rs (any-left isOther before (r ∷ []) a) (c .1))
 
 -- after a stop there is nothing
 pub nothing-after : (w : ℕ) (before rs : List Record) → stopped before ≡ true → Clean w before rs → rs ≡ []
 nothing-after w before [] a c = refl
-nothing-after w before (r ∷ rs) a c = misplaced-stop before r a (faultless w before r (c .0) .placed)
+nothing-after w before (r ∷ rs) a c = never (sym a ∙ placed-so before r (faultless w before r (c .0) .placed) .1)
 
 -- pollutants alone: no engine
-pub no-engines : (rs : List Record) → any isOther rs ≡ false → ofKind 2 rs ≡ []
+pub no-engines : (rs : List Record) → any isOther rs ≡ false → ofKind engineKind rs ≡ []
 unfolding ofKind
 no-engines [] e = refl
 no-engines (r ∷ rs) e =
     let p = or-false (isOther r) (any isOther rs) e in
-    rw (not-two (kind r) (p .0)) (no-engines rs (p .1))
-  where
-    not-two : (k : ℕ) → not (eqb k 1) ≡ false → eqb k 2 ≡ false
-    not-two k f = ne-eqb k 2 (λ q. let h = eqb-true k 1 (not-false (eqb k 1) f) in omega arith)
+    rw (eqb-true (kind r) pollutantKind (not-false _ (p .0))) (no-engines rs (p .1))

@@ -1,28 +1,13 @@
 -- The numbers of an accepted sheet: a declared pollutant's number is 1 to w, and each engine's measurement of it 1 to 9,999,999.
-use Prim.Native.Nat.{ℕ, zero, suc, _≤_, _<_}
-use native.Mathlib.Omega.{arith}
-use mathlib.Core.Path.{_≡_, refl, sym, _∙_}
-use mathlib.Core.Logic.{⊎-elim}
-use mathlib.Core.Bool.{Bool, true, false, not, _||_, cond}
-use mathlib.Core.List.{List, [], _∷_, _++_, append-assoc}
-use lib.Dec.{leb, eqb}
-use borrow.Author.Tests.{eqb-true, ne-eqb, not-false, leb-true}
-use Rattle.rules.specs.Tools.{any, within}
+use Rattle.arithmetic.proofs.Basics.{ℕ, zero, suc, _≤_, _<_, arith, _≡_, sym, _∙_, ⊎-elim, Bool, true, false, _||_, List, [], _∷_, eqb, eqb-true, never}
+use Rattle.arithmetic.proofs.Basics.{or-false, by-test, lt-or-ge, any-snoc}
+use Rattle.rules.specs.Tools.{any}
 use Rattle.rules.specs.Logarithm.{greatest}
-use Rattle.rules.specs.Sheet.{Record, Pollutant, kind, measurement, ofKind, engines, declared, declares, numbers}
+use Rattle.rules.specs.Sheet.{Record, Pollutant, measurement, ofKind, engines, declared, declares, numbers}
 use Rattle.rules.specs.Refusals.{badValue, badMeasurement}
-use Rattle.arithmetic.proofs.Booleans.{never, or-false, and-true, and-right, by-test}
-use Rattle.arithmetic.proofs.Order.{lt-or-ge}
-use Rattle.arithmetic.proofs.Lists.{any-snoc, any-last}
-use Rattle.accepted.proofs.Faultless.{Clean, faultless, isOther, no-pollutants}
+use Rattle.accepted.proofs.Faultless.{in-range, Clean}
 use Rattle.accepted.proofs.ByNumber.{InOrder, in-order}
-use Rattle.accepted.proofs.Causes.{declared-append}
-
--- a number that is not outside a range
-pub in-range : (lo hi x : ℕ) → not (within lo hi x) ≡ false → (lo ≤ x) × (x ≤ hi)
-in-range lo hi x e =
-    let t = and-true (leb lo x) (leb x hi) (not-false (within lo hi x) e) in
-    (leb-true lo x (t .0), leb-true x hi (t .1))
+use Rattle.accepted.proofs.Causes.{each-engine}
 
 -- a test that holds of none of the numbers 1 to w
 none-of : (f : ℕ → Bool) (w : ℕ) → any f (numbers w) ≡ false → (p : ℕ) → 1 ≤ p → p ≤ w → f p ≡ false
@@ -56,20 +41,7 @@ measured : (w : ℕ) (ps : List Pollutant) (r : Record) (p : ℕ) → badMeasure
 unfolding badMeasurement
 measured w ps r p e d l h = in-range 1 greatest (measurement r p) (rw d at (none-of (badValue ps r) w e p l h))
 
-ranges : (w : ℕ) (before rs : List Record) → Clean w before rs → (p : ℕ) → 1 ≤ p → p ≤ w → declares (declared (before ++ rs)) p ≡ true
-    → InRange p (engines rs)
-unfolding ofKind
-ranges w before [] c p l h d = tt
-ranges w before (r ∷ rs) c p l h d =
-    let rest : InRange p (engines rs) = ranges w (before ++ (r ∷ [])) rs (c .1) p l h (rw append-assoc d) in
-    by-test (λ t. InRange p (cond t (r ∷ engines rs) (engines rs))) (eqb (kind r) 2)
-    (λ e.
-    let o : eqb (kind r) 1 ≡ false = ne-eqb (kind r) 1 (λ q. let k = eqb-true (kind r) 2 e in omega arith) in
-    let z : ofKind 1 (r ∷ rs) ≡ [] = rw o (no-pollutants w (before ++ (r ∷ [])) rs (any-last isOther before r (rw o refl)) (c .1)) in
-    let f = and-right (eqb (kind r) 2) (badMeasurement w (declared before) r) (faultless w before r (c .0) .measured) e in
-    let m = measured w (declared before) r p f (rw (declared-append before (r ∷ rs) z) at d) l h in
-    (m .0, m .1, rest))
-    (λ e. rest)
-
 pub measurements-in : (w : ℕ) (rs : List Record) → Clean w [] rs → (p : ℕ) → declares (declared rs) p ≡ true → InRange p (engines rs)
-measurements-in w rs c p d = let n = number-in w rs c p d in ranges w [] rs c p (n .0) (n .1) d
+measurements-in w rs c p d =
+    let n = number-in w rs c p d in
+    each-engine w [] rs c (InRange p) tt (λ r es m f q. let x = measured w (declared rs) r p m d (n .0) (n .1) in (x .0, x .1, q))

@@ -1,11 +1,7 @@
 -- The records of a sheet's bytes: of joined bytes, and one by one.
-use Prim.Native.Nat.{ℕ, zero, suc, _+_, _*_, _/_, _%_, _≤_, _<_}
-use native.Mathlib.Nat.{zero-add, suc-add, mul-zero, mul-suc, div-add-mod, mul-add-div, add-assoc}
-use native.Mathlib.Omega.{arith}
-use mathlib.Core.Path.{_≡_, refl, ap, _∙_}
-use mathlib.Core.List.{List, [], _∷_, _++_}
-use lib.ListN.{length, getD, take, drop, length-append, length-drop}
-use lib.Seq.{take-append-le, drop-append-le, drop-drop, getD-take, getD-drop}
+use Rattle.arithmetic.proofs.Basics.{ℕ, zero, suc, _+_, _*_, _/_, _%_, _≤_, _<_, zero-add, suc-add, mul-zero, mul-suc, div-add-mod, mul-add-div, add-assoc}
+use Rattle.arithmetic.proofs.Basics.{arith, _≡_, refl, ap, _∙_, List, [], _∷_, _++_, length, getD, take, drop, length-append, length-drop, take-append-le}
+use Rattle.arithmetic.proofs.Basics.{drop-append-le, drop-drop, getD-take, getD-drop}
 use Rattle.rules.specs.Tools.{four}
 use Rattle.rules.specs.Sheet.{Record, size, cut, records}
 

@@ -1,30 +1,24 @@
 -- What an accepted sheet has: records in their places, a plan, and engines to its last row at most.
-use Prim.Native.Nat.{ℕ, zero, suc, _+_, _*_, _/_, _≤_, _<_}
-use native.Mathlib.Omega.{arith}
-use mathlib.Core.Path.{_≡_, refl, sym, ap, _∙_}
-use mathlib.Core.Bool.{Bool, true, false, cond}
-use mathlib.Core.List.{List, [], _∷_, _++_, append-assoc, append-nil}
-use lib.Dec.{leb, eqb}
-use lib.ListN.{length, getD, length-append, length-map, List·getD-append, List·getD-map}
-use borrow.Author.Tests.{eqb-true, ne-eqb, not-false, leb-true, leb-false}
-use Rattle.rules.specs.Tools.{within}
-use Rattle.rules.specs.Sheet.{Record, pollutants, recordSize, mostRecords, records, kind, plan, ofKind, engines, pollutant, declared, planNumber}
+use Rattle.arithmetic.proofs.Basics.{ℕ, zero, suc, _+_, _*_, _≤_, _<_, arith, _≡_, refl, sym, ap, _∙_, Bool, true, false, cond, List, [], _∷_, _++_}
+use Rattle.arithmetic.proofs.Basics.{append-assoc, append-nil, eqb, length, getD, length-append, length-map, List·getD-append, List·getD-map, eqb-true}
+use Rattle.arithmetic.proofs.Basics.{not-false, leb-false, by-test}
+use Rattle.rules.specs.Sheet.{Record, pollutants, recordSize, mostRecords, records, pollutantKind, engineKind, stopKind, kind, plan, ofKind, engines, pollutant}
+use Rattle.rules.specs.Sheet.{declared, planNumber}
 use Rattle.rules.specs.Plans.{Plan, knownDeviation, unknownDeviation, attributes, inService, planOf, lastRow, planCount}
 use Rattle.rules.specs.Refusals.{misplaced, badPlan, tooMany}
-use Rattle.arithmetic.proofs.Booleans.{and-true, and-right, by-test}
 use Rattle.accepted.specs.Sheets.{recordAt, pollutantsIn, enginesIn, AcceptedSheet}
 use Rattle.accepted.proofs.Records.{record-at, whole-records, length-records}
-use Rattle.accepted.proofs.Faultless.{Clean, Sound, sound, Faultless, faultless, ofKind-append}
-use Rattle.accepted.proofs.Engines.{layout, counts, engine-bytes}
+use Rattle.accepted.proofs.Faultless.{in-range, Clean, Sound, sound, faultless, ofKind-append}
+use Rattle.accepted.proofs.Engines.{layout, counts, engine-at}
 use Rattle.accepted.proofs.ByNumber.{InOrder, in-order}
 use Rattle.accepted.proofs.Causes.{Caused, causes, plan-append}
 
 -- ---- the first record declares a pollutant and the plan
 
 -- "3, first record not kind 1"
-first-kind : (w : ℕ) (r : Record) (rs : List Record) → Clean w [] (r ∷ rs) → eqb (kind r) 1 ≡ true
+first-kind : (w : ℕ) (r : Record) (rs : List Record) → Clean w [] (r ∷ rs) → eqb (kind r) pollutantKind ≡ true
 unfolding misplaced
-first-kind w r rs c = not-false (eqb (kind r) 1) (faultless w [] r (c .0) .placed)
+first-kind w r rs c = not-false (eqb (kind r) pollutantKind) (faultless w [] r (c .0) .placed)
 
 pub some-declared : (w : ℕ) (rs : List Record) → 1 ≤ length rs → Clean w [] rs → 1 ≤ length (declared rs)
 unfolding declared ofKind
@@ -36,9 +30,7 @@ plan-range : (w : ℕ) (rs : List Record) → 1 ≤ length rs → Clean w [] rs 
 unfolding planNumber badPlan
 plan-range w [] l c = absurd (omega arith)
 plan-range w (r ∷ rs) l c =
-    let f = and-right (eqb (kind r) 1) (badPlan [] r) (faultless w [] r (c .0) .planned) (first-kind w r rs c) in
-    let t = and-true (leb 1 (plan r)) (leb (plan r) planCount) (not-false (within 1 planCount (plan r)) f) in
-    (leb-true 1 (plan r) (t .0), leb-true (plan r) planCount (t .1))
+    in-range 1 planCount (plan r) (faultless w [] r (c .0) .planned (first-kind w r rs c))
 
 abbrev pub isInService : Plan → Bool
 isInService knownDeviation = false
@@ -47,7 +39,7 @@ isInService attributes = false
 isInService inService = true
 
 -- plan 4 is the one in service
-service-number : (n : ℕ) → 1 ≤ n → n ≤ 4 → isInService (planOf n) ≡ eqb n 4
+service-number : (n : ℕ) → 1 ≤ n → n ≤ planCount → isInService (planOf n) ≡ eqb n 4
 unfolding planOf
 service-number zero l u = absurd (omega arith)
 service-number (suc zero) l u = refl
@@ -69,23 +61,13 @@ pub engines-after : (w : ℕ) (before rs : List Record) → Clean w before rs �
 unfolding tooMany ofKind
 engines-after w before [] c h = rw append-nil (rw append-nil at h)
 engines-after w before (r ∷ rs) c h =
-    rw append-assoc at (engines-after w (before ++ (r ∷ [])) rs (c .1) (rw (append-assoc, ofKind-append 2 before (r ∷ []), length-append) one-more))
-  where
-    fine : Faultless w before r
-    fine = faultless w before r (c .0)
-
-    rows : ℕ
-    rows = lastRow (planOf (planNumber (before ++ (r ∷ rs))))
-
-    room : eqb (kind r) 2 ≡ true → length (engines before) < rows
-    room e =
-        let o : eqb (kind r) 1 ≡ false = ne-eqb (kind r) 1 (λ z. let k = eqb-true (kind r) 2 e in omega arith) in
-        rw (plan-append before (r ∷ rs) r o (fine .placed)) (leb-false _ _ (and-right (eqb (kind r) 2) (tooMany before) (fine .counted) e))
-
-    one-more : length (engines before) + length (ofKind 2 (r ∷ [])) ≤ rows
-    one-more =
-        by-test (λ t. length (engines before) + length (cond t (r ∷ []) []) ≤ rows) (eqb (kind r) 2)
-        (λ e. let l = room e in omega arith) (λ e. omega arith)
+    let f = faultless w before r (c .0) in
+    let rows = lastRow (planOf (planNumber (before ++ (r ∷ rs)))) in
+    let room : eqb (kind r) engineKind ≡ true → length (engines before) < rows =
+    λ e. rw (plan-append before (r ∷ rs) r (rw (eqb-true (kind r) engineKind e) refl) (f .placed)) (leb-false _ _ (f .counted e)) in
+    let one-more : length (engines before) + length (ofKind engineKind (r ∷ [])) ≤ rows =
+    by-test (λ t. length (engines before) + length (cond t (r ∷ []) []) ≤ rows) (eqb (kind r) engineKind) (λ e. omega (arith, room e)) (λ e. omega arith) in
+    rw append-assoc at (engines-after w (before ++ (r ∷ [])) rs (c .1) (rw (append-assoc, ofKind-append engineKind before (r ∷ []), length-append) one-more))
 
 -- ---- an accepted sheet
 
@@ -109,7 +91,7 @@ module _ {b : List ℕ} {plan : Plan} {start : ℕ} (s : AcceptedSheet b plan st
   unfolding declared ofKind
   order = in-order pollutants [] rs clean
 
-  all-records : length rs ≡ start + (length es + length (ofKind 3 rs))
+  all-records : length rs ≡ start + (length es + length (ofKind stopKind rs))
   all-records = rw (s .starts) (counts pollutants rs clean)
 
   -- pollutants and engines lie in the sheet
@@ -121,19 +103,20 @@ module _ {b : List ℕ} {plan : Plan} {start : ℕ} (s : AcceptedSheet b plan st
 
   -- engine j is record start + j, and pollutant k is record k
   pub engine-is : (j : ℕ) → j < length es → getD es j [] ≡ recordAt b (start + j)
-  engine-is j h = rw (s .starts) (engine-bytes pollutants b clean j h)
+  engine-is j h =
+      rw (← s .starts) at (engine-at pollutants rs clean j h) ∙ record-at pollutants b (start + j) (omega (arith, all-records, length-records pollutants b))
 
   pub declared-length : length (pollutantsIn b) ≡ start
   unfolding declared
-  declared-length = length-map (ofKind 1 rs) pollutant ∙ sym (s .starts)
+  declared-length = length-map (ofKind pollutantKind rs) pollutant ∙ sym (s .starts)
 
   pub pollutant-is : (k : ℕ) → k < start → getD (pollutantsIn b) k (pollutant []) ≡ pollutant (recordAt b k)
   unfolding declared
   pollutant-is k h =
-      let l : k < length (ofKind 1 rs) = rw (← (s .starts)) h in
-      List·getD-map pollutant (ofKind 1 rs) k []
+      let l : k < length (ofKind pollutantKind rs) = rw (← (s .starts)) h in
+      List·getD-map pollutant (ofKind pollutantKind rs) k []
       ∙ ap pollutant (sym (ap (λ (xs : List Record). getD xs k []) (layout pollutants [] rs clean)
-      ∙ List·getD-append (ofKind 1 rs) (ofKind 2 rs ++ ofKind 3 rs) [] k l)
+      ∙ List·getD-append (ofKind pollutantKind rs) (ofKind engineKind rs ++ ofKind stopKind rs) [] k l)
       ∙ record-at pollutants b k (omega (arith, all-records, length-records pollutants b)))
 
   -- no more engines than rows

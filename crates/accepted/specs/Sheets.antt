@@ -3,7 +3,7 @@ use Prim.Native.Nat.{ℕ, _*_}
 use mathlib.Core.Path.{_≡_}
 use mathlib.Core.List.{List}
 use lib.ListN.{length, take, drop}
-use Rattle.rules.specs.Sheet.{Record, Pollutant, pollutants, recordSize, records, ofKind, engines, declared, planNumber}
+use Rattle.rules.specs.Sheet.{Record, Pollutant, pollutants, recordSize, records, pollutantKind, ofKind, engines, declared, planNumber}
 use Rattle.rules.specs.Plans.{Plan, planOf}
 use Rattle.rules.specs.Refusals.{accepted, check}
 
@@ -22,4 +22,4 @@ enginesIn b = engines (records pollutants b)
 pub record AcceptedSheet (b : List ℕ) (plan : Plan) (start : ℕ) : Type 0 where
   pub accepts : check pollutants b ≡ accepted
   pub planned : plan ≡ planOf (planNumber (records pollutants b))
-  pub starts : start ≡ length (ofKind 1 (records pollutants b))
+  pub starts : start ≡ length (ofKind pollutantKind (records pollutants b))

@@ -1,9 +1,5 @@
 -- Judging refuses what the check refuses, with its number and record, and judges the records of what it accepts.
-use Prim.Native.Nat.{ℕ}
-use mathlib.Core.Path.{_≡_, refl, sym, ap, _∙_}
-use mathlib.Core.Bool.{Bool, true, false}
-use mathlib.Core.List.{List}
-use lib.ListN.{length}
+use Rattle.arithmetic.proofs.Basics.{ℕ, _≡_, refl, sym, ap, _∙_, Bool, true, false, List, length}
 use Rattle.rules.specs.Sheet.{Record, records, engines, stopped, planNumber, declared}
 use Rattle.rules.specs.Plans.{planOf}
 use Rattle.rules.specs.Series.{Series, ongoing, passed, failed, referred, after, Pair, Answer, refusal, judgement}

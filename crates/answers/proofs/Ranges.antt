@@ -1,13 +1,6 @@
 -- The values of an answer: those of a refusal by the check, and those of a judgement by the engines and the pollutants.
-use Prim.Native.Nat.{ℕ, zero, suc, _+_, _≤_, _<_}
-use native.Mathlib.Nat.{div-le-of-le-mul}
-use native.Mathlib.Omega.{arith}
-use mathlib.Core.Path.{_≡_, refl, _∙_}
-use mathlib.Core.Bool.{Bool, true, false, cond}
-use mathlib.Core.List.{List, [], _∷_, _++_}
-use lib.Dec.{leb, eqb}
-use lib.ListN.{length, take, length-append, length-map}
-use borrow.Author.Tests.{leb-true, eqb-false}
+use Rattle.arithmetic.proofs.Basics.{ℕ, zero, suc, _+_, _≤_, _<_, div-le-of-le-mul, arith, _≡_, refl, _∙_, Bool, true, false, cond, List, [], _∷_, _++_, leb}
+use Rattle.arithmetic.proofs.Basics.{eqb, length, take, length-append, length-map, leb-true, eqb-false, and-true, by-test}
 use Rattle.rules.specs.Tools.{any, all}
 use Rattle.rules.specs.Sheet.{Record, Pollutant, size, most, records, numbers, engines, stopped, planNumber, declared}
 use Rattle.rules.specs.Plans.{Plan, planOf}
@@ -15,7 +8,6 @@ use Rattle.rules.specs.Series.{Standing, Series, ongoing, passed, failed, refer
 use Rattle.rules.specs.Series.{Before, early, equalCause, referral, leftOpen, statistics, beforeRow, rowBy, walk, after}
 use Rattle.rules.specs.Series.{pairs, Answer, refusal, judgement, answer, judgeRecords}
 use Rattle.rules.specs.Refusals.{Fault, fault, first, faults, faultOf, Check, accepted, refused, checkFrom, badLength, check}
-use Rattle.arithmetic.proofs.Booleans.{and-true, by-test}
 use Rattle.accepted.proofs.Records.{length-records}
 use Rattle.accepted.proofs.Faultless.{length-fine}
 use Rattle.answers.proofs.Answers.{seriesOf, engineIn}
@@ -57,42 +49,48 @@ check-range w b =
     let k = div-le-of-le-mul (size w) {m = length b} {n = most w} (omega arith) in
     from-range w (most w) [] (records w b) (rw (length-records w b) (omega arith)))
 
--- ---- a series after n engines: its decision is at engine n at most, and the ground of a fail in it is at most 2
+-- ---- a series that is decided at engine n, or goes on; the ground of a fail in it is at most 2
 
-abbrev Within : (n : ℕ) → Series → Type 0
-Within n (ongoing ss) = Unit {0}
-Within n (passed m ss) = m ≤ n
-Within n (failed m ground ss) = (m ≤ n) × (ground ≤ 2)
-Within n (referred m ss) = m ≤ n
+abbrev pub DecidedAt : (n : ℕ) → Series → Type 0
+DecidedAt n (ongoing ss) = Unit {0}
+DecidedAt n (passed m ss) = m ≡ n
+DecidedAt n (failed m ground ss) = (m ≡ n) × (ground ≤ 2)
+DecidedAt n (referred m ss) = m ≡ n
 
-settled-within : (n : ℕ) (ss : List Standing) → Within n (settle n ss)
+-- a row that decides does so at its own engine
+settled-at : (n : ℕ) (ss : List Standing) → DecidedAt n (settle n ss)
 unfolding settle
-settled-within n ss = cases (any (λ s. hasFailed (s .decision)) ss) (all (λ s. hasPassed (s .decision)) ss)
+settled-at n ss = cases (any (λ s. hasFailed (s .decision)) ss) (all (λ s. hasPassed (s .decision)) ss)
   where
-    cases : (a b : Bool) → Within n (settleBy a b n ss)
-    cases true b = (omega arith, omega arith)
-    cases false true = omega arith
+    cases : (a b : Bool) → DecidedAt n (settleBy a b n ss)
+    cases true b = omega arith
+    cases false true = refl
     cases false false = tt
 
 module _ (plan : Plan) (q : ℕ) where
-  row-within : (b : Before) (n : ℕ) (first : List Record) (ss : List Standing) → Within n (rowBy b plan q n first ss)
-  row-within early n first ss = tt
-  row-within equalCause n first ss = (omega arith, omega arith)
-  row-within referral n first ss = omega arith
-  row-within leftOpen n first ss = tt
-  row-within statistics n first ss = settled-within n _
+  row-at : (b : Before) (n : ℕ) (first : List Record) (ss : List Standing) → DecidedAt n (rowBy b plan q n first ss)
+  row-at early n first ss = tt
+  row-at equalCause n first ss = omega arith
+  row-at referral n first ss = refl
+  row-at leftOpen n first ss = tt
+  row-at statistics n first ss = settled-at n _
 
-  module _ (ps : List Pollutant) where
-    walk-within : (n : ℕ) (first : List Record) (s : Series) → Within n s → Within (suc n) (walk plan ps q (suc n) first s)
-    walk-within n first (ongoing ss) h = row-within (beforeRow plan ps (suc n) first) (suc n) first ss
-    walk-within n first (passed m ss) h = omega arith
-    walk-within n first (failed m ground ss) h = let l = h .0 in (omega arith, h .1)
-    walk-within n first (referred m ss) h = omega arith
+  module _ (ps : List Pollutant) (es : List Record) where
+    -- so a series after n engines is that after m of them, at which it is decided or goes on
+    abbrev pub Made : (n : ℕ) → Series → Type 0
+    Made n s = (m : ℕ) × (m ≤ n) × DecidedAt m s × (after plan ps q es m ≡ s)
 
-    after-within : (es : List Record) (n : ℕ) → Within n (after plan ps q es n)
+    walk-made : (n : ℕ) (s : Series) → after plan ps q es n ≡ s → Made n s → Made (suc n) (walk plan ps q (suc n) (take (suc n) es) s)
     unfolding after
-    after-within es zero = tt
-    after-within es (suc n) = walk-within n (take (suc n) es) (after plan ps q es n) (after-within es n)
+    walk-made n (ongoing ss) e h = (suc n, omega arith, row-at (beforeRow plan ps (suc n) (take (suc n) es)) (suc n) (take (suc n) es) ss, rw e refl)
+    walk-made n (passed m ss) e h = (h .0, omega (arith, h .1), h .2, h .3)
+    walk-made n (failed m ground ss) e h = (h .0, omega (arith, h .1), h .2, h .3)
+    walk-made n (referred m ss) e h = (h .0, omega (arith, h .1), h .2, h .3)
+
+    pub after-made : (n : ℕ) → Made n (after plan ps q es n)
+    unfolding after
+    after-made zero = (0, omega arith, tt, refl)
+    after-made (suc n) = walk-made n (after plan ps q es n) refl (after-made n)
 
 -- ---- a judgement after n engines, of w pollutants
 
@@ -108,18 +106,18 @@ length-pairs : (w : ℕ) (ss : List Standing) → length (pairs w ss) ≡ w
 unfolding pairs
 length-pairs w ss = length-map (numbers w) _ ∙ length-numbers w
 
-answer-range : (w : ℕ) (stop : Bool) (n : ℕ) (s : Series) → Within n s → JudgementIn w n (answer w stop n s)
-answer-range w stop n (passed m ss) h = (omega arith, h, omega arith, length-pairs w ss)
-answer-range w stop n (failed m ground ss) h = let g = h .1 in (omega arith, h .0, omega arith, length-pairs w ss)
-answer-range w stop n (referred m ss) h = (omega arith, h, omega arith, length-pairs w ss)
-answer-range w true n (ongoing ss) h = (omega arith, omega arith, omega arith, length-pairs w ss)
-answer-range w false n (ongoing ss) h = (omega arith, omega arith, omega arith, length-pairs w ss)
+answer-range : (w : ℕ) (stop : Bool) (n m : ℕ) (s : Series) → m ≤ n → DecidedAt m s → JudgementIn w n (answer w stop n s)
+answer-range w stop n m (passed k ss) l h = omega (arith, length-pairs w ss)
+answer-range w stop n m (failed k ground ss) l h = omega (arith, h, length-pairs w ss)
+answer-range w stop n m (referred k ss) l h = omega (arith, length-pairs w ss)
+answer-range w true n m (ongoing ss) l h = omega (arith, length-pairs w ss)
+answer-range w false n m (ongoing ss) l h = omega (arith, length-pairs w ss)
 
 pub judgement-range : (w q : ℕ) (rs : List Record) → JudgementIn w (length (engines rs)) (judgeRecords w q rs)
 unfolding judgeRecords
 judgement-range w q rs =
-    let n = length (engines rs) in
-    answer-range w (stopped rs) n (seriesOf q rs) (after-within (planOf (planNumber rs)) q (declared rs) (engines rs) n)
+    let m = after-made (planOf (planNumber rs)) q (declared rs) (engines rs) (length (engines rs)) in
+    answer-range w (stopped rs) (length (engines rs)) (m .0) (seriesOf q rs) (m .1) (m .2)
 
 engine-in : (w n : ℕ) (a : Answer) → JudgementIn w n a → engineIn a ≤ n
 engine-in w n (refusal number place) h = absurd h

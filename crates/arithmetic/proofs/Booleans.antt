@@ -1,7 +1,7 @@
 -- Tests joined by "and" and "or": what a joined test says of its parts.
 use Prim.Native.Nat.{ℕ}
 use mathlib.Core.Path.{_≡_, refl}
-use mathlib.Core.Bool.{Bool, true, false, _&&_, _||_}
+use mathlib.Core.Bool.{Bool, true, false, not, _&&_, _||_, cond}
 use native.Mathlib.Omega.{arith}
 
 -- a test cannot both hold and fail
@@ -47,6 +47,10 @@ pub or-assoc : (a b c : Bool) → a || (b || c) ≡ (a || b) || c
 or-assoc true b c = refl
 or-assoc false b c = refl
 
+pub not-or : (a b : Bool) → not (a || b) ≡ not a && not b
+not-or true b = refl
+not-or false b = refl
+
 pub or-right : (a b : Bool) → b ≡ true → a || b ≡ true
 or-right true b e = refl
 or-right false b e = e
@@ -59,6 +63,10 @@ or-follows false b c d f g e = or-right c d (g e)
 pub and-follows : (a b c d : Bool) → (a ≡ true → c ≡ true) → (b ≡ true → d ≡ true) → a && b ≡ true → c && d ≡ true
 and-follows true b c d f g e = rw (f refl) (g e)
 and-follows false b c d f g e = let z : true ≡ false = cc in never z
+
+pub cond-follows : {p q r s : Bool} (t : Bool) → (p ≡ true → r ≡ true) → (q ≡ true → s ≡ true) → cond t p q ≡ true → cond t r s ≡ true
+cond-follows true f g e = f e
+cond-follows false f g e = g e
 
 -- a statement about a test, from each of its two values
 pub by-test : (P : Bool → Type 0) (t : Bool) → (t ≡ true → P true) → (t ≡ false → P false) → P t

@@ -5,3 +5,4 @@ pub mod Pairs
 pub mod Integers
 pub mod Tables
 pub mod Chain
+pub mod Basics

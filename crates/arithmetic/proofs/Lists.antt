@@ -9,7 +9,7 @@ use lib.ListN.{length, getD, take, drop}
 use lib.Seq.{take-nil}
 use borrow.Author.Tests.{eqb-true, eqb-false}
 use Rattle.rules.specs.Tools.{any, those}
-use Rattle.arithmetic.proofs.Booleans.{never, or-same, or-true, or-assoc, or-right}
+use Rattle.arithmetic.proofs.Booleans.{or-same, or-true, or-assoc, or-right, or-follows, by-test}
 
 module _ {A : Type 0} (test : A → Bool) where
   pub any-append : (xs ys : List A) → any test (xs ++ ys) ≡ any test xs || any test ys
@@ -27,20 +27,16 @@ module _ {A : Type 0} (test : A → Bool) where
 
   pub those-append : (xs ys : List A) → those test (xs ++ ys) ≡ those test xs ++ those test ys
   those-append [] ys = refl
-  those-append (x ∷ xs) ys = cases (test x) (those-append xs ys)
-    where
-      cases : (b : Bool) → those test (xs ++ ys) ≡ those test xs ++ those test ys
-          → cond b (x ∷ those test (xs ++ ys)) (those test (xs ++ ys)) ≡ cond b (x ∷ those test xs) (those test xs) ++ those test ys
-      cases true h = ap (λ (l : List A). x ∷ l) h
-      cases false h = h
+  those-append (x ∷ xs) ys =
+      rw (those-append xs ys)
+      (by-test (λ b. cond b (x ∷ (those test xs ++ those test ys)) (those test xs ++ those test ys) ≡ cond b (x ∷ those test xs) (those test xs) ++ those test ys)
+      (test x) (λ e. refl) (λ e. refl))
 
 pub length-those : {A : Type 0} (test : A → Bool) (xs : List A) → length (those test xs) ≤ length xs
 length-those test [] = omega arith
-length-those test (x ∷ xs) = cases (test x) (length-those test xs)
-  where
-    cases : (b : Bool) → length (those test xs) ≤ length xs → length (cond b (x ∷ those test xs) (those test xs)) ≤ suc (length xs)
-    cases true h = omega arith
-    cases false h = omega arith
+length-those test (x ∷ xs) =
+    let h = length-those test xs in
+    by-test (λ b. length (cond b (x ∷ those test xs) (those test xs)) ≤ suc (length xs)) (test x) (λ e. omega arith) (λ e. omega arith)
 
 pub map-append : {A B : Type 0} (f : A → B) (xs ys : List A) → map f (xs ++ ys) ≡ map f xs ++ map f ys
 map-append f [] ys = refl
@@ -54,37 +50,20 @@ any-part test d e n (suc i) [] = rw (e, take-nil n) refl
 any-part test d e n zero (x ∷ xs) = refl
 any-part test d e n (suc i) (x ∷ xs) = any-part test d e n i xs
 
--- a test f that is changed at n alone, where it did not hold, to a test h
-module _ (f h : ℕ → Bool) (n : ℕ) where
-  any-changed : f n ≡ false → ((p : ℕ) → (p ≡ n → ⊥) → h p ≡ f p) → (xs : List ℕ) → any h xs || h n ≡ any f xs || h n
-  any-changed e o [] = refl
-  any-changed e o (x ∷ xs) = cases (eqb x n) refl (any-changed e o xs)
-    where
-      here : (b c d : Bool) → b || d ≡ c || d → d || b || d ≡ c || d
-      here b c true i = sym (or-true c)
-      here b c false i = i
+-- a test that is the same of each, or follows of each
+any-same : {A : Type 0} (f h : A → Bool) → ((x : A) → h x ≡ f x) → (xs : List A) → any h xs ≡ any f xs
+any-same f h i [] = refl
+any-same f h i (x ∷ xs) = rw (i x, any-same f h i xs) refl
 
-      beside : (a b c d : Bool) → b || d ≡ c || d → a || b || d ≡ a || c || d
-      beside true b c d i = refl
-      beside false b c d i = i
+any-implies : {A : Type 0} (f h : A → Bool) → ((x : A) → f x ≡ true → h x ≡ true) → (xs : List A) → any f xs ≡ true → any h xs ≡ true
+any-implies f h i [] e = e
+any-implies f h i (x ∷ xs) e = or-follows (f x) (any f xs) (h x) (any h xs) (i x) (any-implies f h i xs) e
 
-      cases : (t : Bool) → eqb x n ≡ t → any h xs || h n ≡ any f xs || h n → h x || any h xs || h n ≡ f x || any f xs || h n
-      cases true q i = rw (eqb-true x n q, e) (here (any h xs) (any f xs) (h n) i)
-      cases false q i = rw (o x (eqb-false x n q)) (beside (f x) (any h xs) (any f xs) (h n) i)
-
-  any-member : (xs : List ℕ) → any (λ x. eqb x n) xs ≡ true → any h xs || h n ≡ any h xs
-  any-member [] e = never (sym e)
-  any-member (x ∷ xs) e = cases (eqb x n) refl e (any-member xs)
-    where
-      twice : (a b : Bool) → a || b || a ≡ a || b
-      twice true b = refl
-      twice false b = or-same b
-
-      cases : (t : Bool) → eqb x n ≡ t → t || any (λ y. eqb y n) xs ≡ true → (any (λ y. eqb y n) xs ≡ true → any h xs || h n ≡ any h xs)
-          → h x || any h xs || h n ≡ h x || any h xs
-      cases true q m i = rw (eqb-true x n q) (twice (h n) (any h xs))
-      cases false q m i = sym (or-assoc (h x) (any h xs) (h n)) ∙ ap (λ (b : Bool). h x || b) (i m)
-
-  pub any-update : f n ≡ false → ((p : ℕ) → (p ≡ n → ⊥) → h p ≡ f p) → (xs : List ℕ) → any (λ x. eqb x n) xs ≡ true
-      → any h xs ≡ any f xs || h n
-  any-update e o xs m = sym (any-member xs m) ∙ any-changed e o xs
+-- a test f that is changed at n alone, where it did not hold, to a test h: over a list that n is in
+pub any-update : (f h : ℕ → Bool) (n : ℕ) → f n ≡ false → ((p : ℕ) → (p ≡ n → ⊥) → h p ≡ f p) → (xs : List ℕ) → any (λ x. eqb x n) xs ≡ true
+    → any h xs ≡ any f xs || h n
+any-update f h n e o xs m =
+    by-test (λ t. any h xs ≡ any f xs || t) (h n)
+    (λ q. any-implies (λ x. eqb x n) h (λ x p. rw (eqb-true x n p) q) xs m ∙ sym (or-true (any f xs)))
+    (λ q. any-same f h (λ x. by-test (λ t. h x ≡ f x) (eqb x n) (λ p. rw (eqb-true x n p) (q ∙ sym e)) (λ p. o x (eqb-false x n p))) xs
+    ∙ sym (or-same (any f xs)))

@@ -1,12 +1,12 @@
 -- Tests of order, of which two that test the same give the same; and the order of squares.
-use Prim.Native.Nat.{ℕ, _+_, _-_, _*_, _≤_, _<_}
+use Prim.Native.Nat.{ℕ, suc, _+_, _-_, _*_, _≤_, _<_}
 use mathlib.Core.Path.{_≡_, sym, ap, _∙_}
-use mathlib.Core.Bool.{true, not}
+use mathlib.Core.Bool.{not}
 use mathlib.Core.Logic.{_⊎_, inl, inr, ⊎-elim, _↔_}
 use native.Mathlib.Omega.{arith}
 use native.Mathlib.Decide.{decLt}
 use lib.Dec.{ltb, leb}
-use borrow.Author.Tests.{lt-ltb, le-ltb, lt-leb, le-leb, ltb-true, leb-true}
+use borrow.Author.Tests.{lt-ltb, le-ltb, lt-leb, le-leb}
 
 -- one of two numbers is the lower, or the other is at most that
 pub lt-or-ge : (a b : ℕ) → (a < b) ⊎ (b ≤ a)
@@ -16,28 +16,18 @@ lt-or-ge a b = cases (decLt a b)
     cases (yes h) = inl h
     cases (no h) = inr (omega arith)
 
-pub ltb-same : (a b c d : ℕ) → (a < b) ↔ (c < d) → ltb a b ≡ ltb c d
-ltb-same a b c d e =
-    ⊎-elim (λ lt. lt-ltb a b lt ∙ sym (lt-ltb c d (e .0 lt)))
-    (λ ge. le-ltb a b ge ∙ sym (le-ltb c d (⊎-elim (λ lt. absurd (omega (arith, e .1 lt))) (λ h. h) (lt-or-ge c d))))
-    (lt-or-ge a b)
-
 pub leb-same : (a b c d : ℕ) → (a ≤ b) ↔ (c ≤ d) → leb a b ≡ leb c d
 leb-same a b c d e =
     ⊎-elim (λ lt. lt-leb a b lt ∙ sym (lt-leb c d (⊎-elim (λ h. h) (λ le. absurd (omega (arith, e .1 le))) (lt-or-ge d c))))
     (λ le. le-leb a b le ∙ sym (le-leb c d (e .0 le)))
     (lt-or-ge b a)
 
+pub ltb-same : (a b c d : ℕ) → (a < b) ↔ (c < d) → ltb a b ≡ ltb c d
+ltb-same a b c d e = leb-same (suc a) b (suc c) d e
+
 pub not-ltb : (a b : ℕ) → not (ltb a b) ≡ leb b a
 not-ltb a b =
     ⊎-elim (λ lt. ap not (lt-ltb a b lt) ∙ sym (lt-leb b a lt)) (λ ge. ap not (le-ltb a b ge) ∙ sym (le-leb b a ge)) (lt-or-ge a b)
-
--- where what one tests follows from what the other tests, so does the test
-pub ltb-follows : (a b c d : ℕ) → (a < b → c < d) → ltb a b ≡ true → ltb c d ≡ true
-ltb-follows a b c d f e = lt-ltb c d (f (ltb-true a b e))
-
-pub leb-follows : (a b c d : ℕ) → (a ≤ b → c ≤ d) → leb a b ≡ true → leb c d ≡ true
-leb-follows a b c d f e = le-leb c d (f (leb-true a b e))
 
 -- twice a product is at most the sum of the squares
 pub twice : (a b : ℕ) → 2 * (a * b) ≤ a * a + b * b

@@ -1,9 +1,10 @@
 -- Two lists whose elements stand in a relation, one by one.
-use Prim.Native.Nat.{ℕ, zero, suc}
+use Prim.Native.Nat.{ℕ, zero, suc, _<_}
+use native.Mathlib.Omega.{arith}
 use mathlib.Core.Path.{_≡_, refl, ap}
 use mathlib.Core.Bool.{Bool, true, cond}
 use mathlib.Core.List.{List, [], _∷_, map}
-use lib.ListN.{length, take}
+use lib.ListN.{length, getD, take}
 use Rattle.rules.specs.Tools.{any, all, those}
 use Rattle.arithmetic.proofs.Booleans.{or-follows, and-follows, by-test}
 
@@ -16,9 +17,13 @@ module _ {A B : Type 0} {P : A → B → Type 0} where
   pairs-length none = refl
   pairs-length (more h r) = ap suc (pairs-length r)
 
-  pub pairs-swap : {xs : List A} {ys : List B} → Pairs P xs ys → Pairs (λ (y : B) (x : A). P x y) ys xs
-  pairs-swap none = none
-  pairs-swap (more h r) = more h (pairs-swap r)
+  -- by their places
+  pub pairs-at : (xs : List A) (ys : List B) (x : A) (y : B) → length xs ≡ length ys
+      → ((j : ℕ) → j < length xs → P (getD xs j x) (getD ys j y)) → Pairs P xs ys
+  pairs-at [] [] x y l h = none
+  pairs-at [] (b ∷ ys) x y l h = absurd (omega arith)
+  pairs-at (a ∷ xs) [] x y l h = absurd (omega arith)
+  pairs-at (a ∷ xs) (b ∷ ys) x y l h = more (h 0 (omega arith)) (pairs-at xs ys x y (omega arith) (λ j k. h (suc j) (omega arith)))
 
   pub pairs-take : {xs : List A} {ys : List B} (n : ℕ) → Pairs P xs ys → Pairs P (take n xs) (take n ys)
   pairs-take zero r = none
@@ -36,14 +41,15 @@ module _ {A B : Type 0} {P : A → B → Type 0} where
   same-map f g i (more {x} {y} h r) = rw (i x y h, same-map f g i r) refl
 
   -- a test that follows from each of the one list to that of the other follows of some of them, and of all
-  module _ (s : A → Bool) (t : B → Bool) (i : (x : A) (y : B) → P x y → s x ≡ true → t y ≡ true) where
-    pub any-follows : {xs : List A} {ys : List B} → Pairs P xs ys → any s xs ≡ true → any t ys ≡ true
-    any-follows none e = e
-    any-follows (more {x} {y} {xs} {ys} h r) e = or-follows (s x) (any s xs) (t y) (any t ys) (i x y h) (any-follows r) e
+  pub any-follows : {xs : List A} {ys : List B} (s : A → Bool) (t : B → Bool) → ((x : A) (y : B) → P x y → s x ≡ true → t y ≡ true)
+      → Pairs P xs ys → any s xs ≡ true → any t ys ≡ true
+  any-follows s t i none e = e
+  any-follows s t i (more {x} {y} {xs} {ys} h r) e = or-follows (s x) (any s xs) (t y) (any t ys) (i x y h) (any-follows s t i r) e
 
-    pub all-follows : {xs : List A} {ys : List B} → Pairs P xs ys → all s xs ≡ true → all t ys ≡ true
-    all-follows none e = e
-    all-follows (more {x} {y} {xs} {ys} h r) e = and-follows (s x) (all s xs) (t y) (all t ys) (i x y h) (all-follows r) e
+  pub all-follows : {xs : List A} {ys : List B} (t : B → Bool) (s : A → Bool) → ((x : A) (y : B) → P x y → t y ≡ true → s x ≡ true)
+      → Pairs P xs ys → all t ys ≡ true → all s xs ≡ true
+  all-follows t s i none e = e
+  all-follows t s i (more {x} {y} {xs} {ys} h r) e = and-follows (t y) (all t ys) (s x) (all s xs) (i x y h) (all-follows t s i r) e
 
   -- a test that gives the same in both: some of them, and those that it holds of
   module _ (s : A → Bool) (t : B → Bool) (i : (x : A) (y : B) → P x y → s x ≡ t y) where

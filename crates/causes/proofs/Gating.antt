@@ -1,170 +1,167 @@
--- The loop to the first row that ends a series before its statistics, and the plans that have no such row.
-use Prim.Native.Nat.{ℕ, zero, suc, _+_, _-_, _≤_, _<_}
-use native.Mathlib.Omega.{arith}
-use native.Mathlib.Numerals.{add-one}
-use mathlib.Core.Path.{_≡_, refl, sym, ap, _∙_}
-use mathlib.Core.Bool.{Bool, true, false, not, _&&_, _||_, cond}
-use mathlib.Core.List.{List, [], _∷_, map}
-use lib.Dec.{leb, ltb, eqb}
-use lib.ListN.{length, getD, take, drop, length-append, length-map, take-append-drop}
-use lib.Seq.{take-suc, take-length, length-take-le}
-use borrow.Author.Tests.{lt-leb}
+-- The gate of plan 4, row by row, and that of the plans whose series end by their statistics alone.
+use Rattle.arithmetic.proofs.Basics.{ℕ, suc, _+_, _-_, _≤_, _<_, arith, add-one, _≡_, refl, sym, ap, _∙_, Bool, true, false, not, _&&_, _||_, cond, List, []}
+use Rattle.arithmetic.proofs.Basics.{_∷_, _++_, map, append-nil, leb, ltb, eqb, length, take, drop, length-append, length-map, take-append-drop, take-all}
+use Rattle.arithmetic.proofs.Basics.{take-length, eqb-true, eq-eqb, ne-eqb, leb-true, le-leb, lt-leb, le-ltb, or-true, or-same, and-true, and-right, and-never}
+use Rattle.arithmetic.proofs.Basics.{by-test, not-ltb, any-snoc, map-append, those-append}
+use mir.Val.{boolByte}
 use Rattle.rules.specs.Tools.{any, those}
-use Rattle.arithmetic.proofs.Booleans.{never, by-test}
-use Rattle.arithmetic.proofs.Lists.{length-those, those-append}
 use Rattle.rules.specs.Sheet.{Record, cause}
-use Rattle.rules.specs.Plans.{knownDeviation, unknownDeviation, attributes, inService, lastRow}
+use Rattle.rules.specs.Plans.{Plan, inService, lastRow}
 use Rattle.rules.specs.Series as rules
-use Rattle.accepted.specs.Sheets.{recordAt, pollutantsIn, enginesIn}
+use Rattle.accepted.specs.Sheets.{recordAt, pollutantsIn, enginesIn, AcceptedSheet}
 use Rattle.accepted.proofs.Causes.{hasCause}
 use Rattle.accepted.proofs.Sheets.{engine-is, rows-fit, caused}
-use Rattle.columns.specs.Columns.{openAfter, causeAfter, referralAfter, opened, gate, closes}
-use Rattle.columns.proofs.Gates.{gate-next, cause-stays, referral-stays}
-use Rattle.causes.specs.declared.Emitters.{Emitters}
-use Rattle.causes.specs.declared.Before.{Before}
-use Rattle.causes.specs.declared.Before.the-variants as before
-use Rattle.causes.specs.Causes.{causesAmong, emittersWith, beforeBy, beforeIs, beforeIn, gateOf, inServiceGate}
+use Rattle.columns.specs.Columns.{openAfter, causeAfter, referralAfter, gate, closes}
+use Rattle.columns.proofs.Gates.{gate-opens, gate-open, gate-ends}
+use Rattle.causes.specs.Causes.{equalCauses, emittersIn, repeatsIn, beforeIn, gateOf, inServiceGate}
 use Rattle.causes.specs.Ranges.{InServiceRange}
-use Rattle.causes.proofs.Emitting.{Emits, emits-none, emits-more, before-is}
+use Rattle.causes.proofs.Emitting.{any-those, those-not, those-next, count-next, caused-cut, leftBy, beforeBy, before-is, closes-pick}
 
--- after n engines, all of whose rows may be looked at
-pub record Gated (b : List ℕ) (engines n : ℕ) (e : Emitters) : Type 0 where
-  pub most : n ≤ engines
-  pub free : inServiceGate b n ≡ openAfter n
-  pub emits : Emits (enginesIn b) n e
+-- plans 1 to 3: what comes before a row's statistics ends no series
+pub plain-gate : (plan : Plan) (b : List ℕ) (n : ℕ) → ((k : ℕ) (first : List Record) → rules.planBefore plan (pollutantsIn b) k first ≡ rules.statistics)
+    → openAfter n ≡ gateOf plan b n
+unfolding rules.beforeRow
+plain-gate plan b n h =
+    sym (gate-open (beforeIn plan b) n
+    (λ k l. rw (h (suc k) (take (suc k) (enginesIn b))) (by-test (λ t. closes (cond t rules.early rules.statistics) ≡ false) (ltb (suc k) 3) (λ e. refl) (λ e. refl))))
 
-module _ {b : List ℕ} {start engines : ℕ} (range : InServiceRange b start engines) where
-  pub gated-none : Gated b engines 0 (record { count = 0; newest = false; repeated = false })
-  unfolding gate
-  gated-none = record { most = omega arith; free = refl; emits = emits-none (enginesIn b) }
+-- ---- equal causes, with one engine more
 
-  pub few-rows : engines ≤ lastRow inService
-  few-rows = rw (range .all) (rows-fit (range .sheet))
+-- one more cause in a list
+repeats-snoc : (xs : List ℕ) (c : ℕ) → rules.repeats (xs ++ (c ∷ [])) ≡ rules.repeats xs || any (λ x. eqb x c) xs
+repeats-snoc [] c = refl
+repeats-snoc (x ∷ xs) c =
+    rw (any-snoc (eqb x) xs c, repeats-snoc xs c)
+    (by-test (λ t. (t || eqb x c) || (rules.repeats xs || any (λ y. eqb y c) xs) ≡ (t || rules.repeats xs) || (eqb x c || any (λ y. eqb y c) xs)) (any (eqb x) xs)
+    (λ e. refl)
+    (λ e. by-test (λ t. t || (rules.repeats xs || any (λ y. eqb y c) xs) ≡ rules.repeats xs || (t || any (λ y. eqb y c) xs)) (eqb x c)
+    (λ f. sym (or-true (rules.repeats xs))) (λ f. refl)))
 
-  module _ {n : ℕ} {e : Emitters} (g : Gated b engines n e) (l : n < engines) where
-    in-list : n < length (enginesIn b)
-    in-list = rw (← (range .all)) l
+-- a cause that is not 0 is only looked for where there is a cause
+any-cause : (c : ℕ) → (c ≡ 0 → ⊥) → (es : List Record) → any (λ x. eqb x c) (map cause (those hasCause es)) ≡ any (λ r. eqb (cause r) c) es
+any-cause c h [] = refl
+any-cause c h (e ∷ es) =
+    by-test (λ z. any (λ x. eqb x c) (map cause (cond (not z) (e ∷ those hasCause es) (those hasCause es))) ≡ eqb (cause e) c || any (λ r. eqb (cause r) c) es)
+    (eqb (cause e) 0) (λ z. rw (ne-eqb (cause e) c (λ w. h (sym w ∙ eqb-true (cause e) 0 z))) (any-cause c h es)) (λ z. rw (any-cause c h es) refl)
 
-    pub counted-few : e .count < 1000
-    counted-few =
-        omega (arith, g .emits .count, length-those hasCause (take n (enginesIn b)), length-take-le n (enginesIn b) (let i = in-list in omega arith), few-rows, l)
+module _ {b : List ℕ} {start : ℕ} (s : AcceptedSheet b inService start) {n : ℕ} (l : n < length (enginesIn b))
+    {r : Record} (re : r ≡ recordAt b (start + n)) {z : ℕ} (ze : z ≡ cause r) where
+  abbrev es : List Record
+  es = enginesIn b
 
-    module _ {r : Record} (re : r ≡ recordAt b (start + n)) {z : ℕ} (ze : z ≡ cause r) {f : Emitters} (fe : f ≡ emittersWith b start n z e) where
-      emits-next : Emits (enginesIn b) (suc n) f
-      emits-next =
-          rw (fe, ze, re, ← (engine-is (range .sheet) n in-list))
-          (emits-more b start (enginesIn b) (engine-is (range .sheet)) n in-list e (g .emits))
+  pub equal-next : (c : ℕ) → equalCauses b (n + 1) c ≡ equalCauses b n c + boolByte (eqb z c)
+  equal-next c = rw (add-one n, ze, re, ← (engine-is s n l)) (count-next (λ x. eqb (cause x) c) es n [] l)
 
-      next : (x : Before) → x ≡ beforeBy (n + 1) f → inServiceGate b (suc n) ≡ opened (beforeIs x) n
-      next x xe =
-          gate-next (beforeIn inService b) n (beforeIs x) (openAfter n)
-          (before-is (pollutantsIn b) (enginesIn b) (suc n) f emits-next inService (caused (range .sheet)) ∙ sym (rw (xe, add-one n) refl)) (g .free)
+  emitters-next : emittersIn b (n + 1) ≡ emittersIn b n ++ cond (not (eqb z 0)) (r ∷ []) []
+  emitters-next = rw (add-one n, ze, re, ← (engine-is s n l)) (those-next hasCause es n [] l)
 
-      pub gated-next : {x : Before} → x ≡ beforeBy (n + 1) f → opened (beforeIs x) n ≡ openAfter (suc n) → Gated b engines (n + 1) f
-      gated-next {x} xe o = rw (add-one n) (record { most = l; free = next x xe ∙ o; emits = emits-next })
+  pub repeats-none : z ≡ 0 → repeatsIn b (n + 1) ≡ repeatsIn b n || false
+  repeats-none e = rw (emitters-next, e, append-nil, or-same) refl
 
-      pub cause-gate : {x : Before} → x ≡ beforeBy (n + 1) f → opened (beforeIs x) n ≡ causeAfter n → causeAfter n ≡ inServiceGate b engines
-      cause-gate {x} xe o = sym (cause-stays (beforeIn inService b) (suc n) engines n l (next x xe ∙ o))
+  pub repeats-next : (z ≡ 0 → ⊥) → {k : ℕ} → k ≡ equalCauses b n z → repeatsIn b (n + 1) ≡ repeatsIn b n || leb 1 k
+  repeats-next h ke =
+      rw (
+        emitters-next,
+        ne-eqb z 0 h,
+        map-append cause (emittersIn b n) (r ∷ []),
+        repeats-snoc (map cause (emittersIn b n)) (cause r),
+        ke,
+        ← ze,
+        any-cause z h (take n es),
+        any-those (λ x. eqb (cause x) z) (take n es),
+      ) refl
 
-      pub referral-gate : {x : Before} → x ≡ beforeBy (n + 1) f → opened (beforeIs x) n ≡ referralAfter n → referralAfter n ≡ inServiceGate b engines
-      referral-gate {x} xe o = sym (referral-stays (beforeIn inService b) (suc n) engines n l (next x xe ∙ o))
+-- ---- the rows of plan 4
 
-  pub gated-all : {n : ℕ} {e : Emitters} → Gated b engines n e → engines ≤ n → openAfter n ≡ inServiceGate b engines
-  gated-all {n} g l = let m = g .most in let z : engines ≡ n = omega arith in rw z (sym (g .free))
-
--- ---- where no row ends the series before its statistics
-
-never-closed : (before : ℕ → rules.Before) → ((n : ℕ) → closes (before n) ≡ false) → (n : ℕ) → openAfter n ≡ gate before n
-unfolding gate
-never-closed before h zero = refl
-never-closed before h (suc n) = rw (← (never-closed before h n)) (cases (before (suc n)) (h (suc n)))
-  where
-    cases : (b : rules.Before) → closes b ≡ false → openAfter (suc n) ≡ opened b n
-    cases rules.early e = refl
-    cases rules.equalCause e = never e
-    cases rules.referral e = never e
-    cases rules.leftOpen e = refl
-    cases rules.statistics e = refl
-
--- plans 1 to 3
-plain : (n : ℕ) → closes (cond (ltb n 3) rules.early rules.statistics) ≡ false
-plain n = by-test (λ t. closes (cond t rules.early rules.statistics) ≡ false) (ltb n 3) (λ e. refl) (λ e. refl)
-
-module _ (b : List ℕ) (n : ℕ) where
-  pub known-gate : openAfter n ≡ gateOf knownDeviation b n
-  unfolding rules.beforeRow
-  known-gate = never-closed (beforeIn knownDeviation b) plain n
-
-  pub unknown-gate : openAfter n ≡ gateOf unknownDeviation b n
-  unfolding rules.beforeRow
-  unknown-gate = never-closed (beforeIn unknownDeviation b) plain n
-
-  pub attributes-gate : openAfter n ≡ gateOf attributes b n
-  unfolding rules.beforeRow
-  attributes-gate = never-closed (beforeIn attributes b) plain n
-
--- plan 4 with fewer than two gross emitters
 few-repeats : (xs : List ℕ) → length xs < 2 → rules.repeats xs ≡ false
 few-repeats [] h = refl
 few-repeats (x ∷ []) h = refl
 few-repeats (x ∷ y ∷ xs) h = absurd (omega arith)
 
+-- after n engines, all of whose rows may be looked at, of a sheet with two gross emitters
+pub record Gated (b : List ℕ) (engines n : ℕ) (repeated : Bool) : Type 0 where
+  pub most : n ≤ engines
+  pub free : inServiceGate b n ≡ openAfter n
+  pub repeats : repeated ≡ repeatsIn b n
+  pub two : 2 ≤ length (those hasCause (enginesIn b))
+
 module _ {b : List ℕ} {start engines : ℕ} (range : InServiceRange b start engines) where
-  abbrev es : List Record
-  es = enginesIn b
+  pub few-rows : engines ≤ lastRow inService
+  few-rows = rw (range .all) (rows-fit (range .sheet))
 
-  among-is : (n : ℕ) → n ≤ length es → causesAmong b start n ≡ length (those hasCause (take n es))
-  unfolding causesAmong
-  among-is zero h = refl
-  among-is (suc n) h =
-      rw (
-        take-suc es n [] h,
-        those-append hasCause (take n es) (getD es n [] ∷ []),
-        length-append,
-        among-is n (omega arith),
-        engine-is (range .sheet) n h,
-      )
-      (by-test (λ t. length (those hasCause (take n es)) + cond t 0 1 ≡ length (those hasCause (take n es)) + length (cond (not t) (r n ∷ []) [])) (eqb (cause (r n)) 0)
-      (λ e. refl) (λ e. refl))
+  before-row : (n : ℕ) → beforeIn inService b n ≡ beforeBy n (take n (enginesIn b))
+  before-row n =
+      before-is (pollutantsIn b) n (take n (enginesIn b)) inService (caused-cut true (pollutantsIn b) n (enginesIn b) (caused (range .sheet)) .0)
+
+  closes-row : (n : ℕ) → closes (beforeIn inService b n) ≡ leb 3 n && (repeatsIn b n || eqb n 15 && leb 2 (length (emittersIn b n)))
+  closes-row n = rw (before-row n, ← (not-ltb n 3)) (closes-pick (ltb n 3) (repeatsIn b n) (eqb n 15 && leb 2 (length (emittersIn b n))) (leftBy n (take n (enginesIn b))))
+
+  -- those without a cause leave the gross emitters
+  pub emitters-are : {k : ℕ} → k ≡ equalCauses b engines 0 → k + length (those hasCause (enginesIn b)) ≡ engines
+  emitters-are ke = rw (ke, range .all, take-length (enginesIn b)) (those-not (λ r. eqb (cause r) 0) (enginesIn b))
+
+  -- with fewer than two no row ends the series
+  pub few-gate : {k : ℕ} → k ≡ equalCauses b engines 0 → engines - k < 2 → openAfter engines ≡ inServiceGate b engines
+  few-gate ke h = sym (gate-open (beforeIn inService b) engines (λ n l. closed (suc n)))
     where
-      r : ℕ → Record
-      r n = recordAt b (start + n)
-
-  all-causes : causesAmong b start engines ≡ length (those hasCause es)
-  all-causes = rw (range .all, among-is (length es) (omega arith), take-length es) refl
-
-  pub few-gate : {c : ℕ} → c ≡ causesAmong b start engines → c < 2 → openAfter engines ≡ inServiceGate b engines
-  unfolding beforeBy
-  few-gate ce h = never-closed (beforeIn inService b) open-row engines
-    where
-      few : (n : ℕ) → length (those hasCause (take n es)) < 2
+      few : (n : ℕ) → length (emittersIn b n) < 2
       few n =
           omega (
             arith,
-            ce,
-            all-causes,
-            length-append (those hasCause (take n es)) (those hasCause (drop n es)),
-            ap length (sym (those-append hasCause (take n es) (drop n es)) ∙ ap (those hasCause) (take-append-drop n es)),
+            emitters-are ke,
+            length-append (emittersIn b n) (those hasCause (drop n (enginesIn b))),
+            ap length (sym (those-append hasCause (take n (enginesIn b)) (drop n (enginesIn b))) ∙ ap (those hasCause) (take-append-drop n (enginesIn b))),
           )
 
-      pick : (a c d : Bool) → closes (beforeIs (cond a before.Early (cond false before.EqualCause
-          (cond (c && false) before.Referral (cond d before.LeftOpen before.Statistics))))) ≡ false
-      pick true c d = refl
-      pick false true true = refl
-      pick false true false = refl
-      pick false false true = refl
-      pick false false false = refl
-
-      open-row : (n : ℕ) → closes (beforeIn inService b n) ≡ false
-      open-row n =
-          let e : Emitters = record {
-            count = length (those hasCause (take n es));
-            newest = any hasCause (drop (n - 1) (take n es));
-            repeated = rules.repeats (map cause (those hasCause (take n es)));
-          } in
+      closed : (n : ℕ) → closes (beforeIn inService b n) ≡ false
+      closed n =
           rw (
-            before-is (pollutantsIn b) es n e (record { count = refl; newest = refl; repeated = refl }) inService (caused (range .sheet)),
-            few-repeats (map cause (those hasCause (take n es))) (rw length-map (few n)),
-            lt-leb 2 (length (those hasCause (take n es))) (few n),
-          )
-          (pick (ltb n 3) (eqb n (lastRow inService)) (ltb n (lastRow inService) && (e .newest || eqb n 3 && leb 1 (e .count))))
+            closes-row n,
+            few-repeats (map cause (emittersIn b n)) (rw length-map (few n)),
+            lt-leb 2 (length (emittersIn b n)) (few n),
+            and-never (eqb n 15),
+          ) (and-never (leb 3 n))
+
+  pub gated-none : {k : ℕ} → k ≡ equalCauses b engines 0 → 2 ≤ engines - k → Gated b engines 0 false
+  unfolding gate
+  gated-none ke h = record { most = omega arith; free = refl; repeats = refl; two = omega (arith, emitters-are ke) }
+
+  module _ {n : ℕ} {repeated : Bool} (g : Gated b engines n repeated) (l : n < engines) (x : Bool) (xe : repeatsIn b (n + 1) ≡ repeatsIn b n || x) where
+    now-repeats : repeatsIn b (suc n) ≡ repeated || x
+    now-repeats = rw (← (add-one n), g .repeats) xe
+
+    pub cause-gate : leb 3 (n + 1) && (repeated || x) ≡ true → causeAfter n ≡ inServiceGate b engines
+    cause-gate e =
+        let t = and-true (leb 3 (n + 1)) (repeated || x) e in
+        let m = leb-true 3 (n + 1) (t .0) in
+        gate-ends (beforeIn inService b) n engines l (g .free) rules.equalCause
+        (before-row (suc n) ∙ (rw (le-ltb (suc n) 3 (omega arith), now-repeats, t .1) refl)) (λ y. refl)
+
+    module _ (e : leb 3 (n + 1) && (repeated || x) ≡ false) where
+      pub referral-gate : n + 1 ≡ 15 → referralAfter n ≡ inServiceGate b engines
+      referral-gate z =
+          let f = few-rows in
+          let no : repeated || x ≡ false = and-right (leb 3 (n + 1)) (repeated || x) e (le-leb 3 (n + 1) (omega arith)) in
+          gate-ends (beforeIn inService b) n engines l (g .free) rules.referral
+          (before-row (suc n) ∙ (rw (
+            le-ltb (suc n) 3 (omega arith),
+            now-repeats,
+            no,
+            eq-eqb (suc n) 15 (omega arith),
+            take-all (suc n) (enginesIn b) (omega (arith, range .all)),
+            le-leb 2 (length (those hasCause (enginesIn b))) (g .two),
+          ) refl)) (λ y. refl)
+
+      pub gated-next : (n + 1 ≡ 15 → ⊥) → Gated b engines (n + 1) (repeated || x)
+      gated-next z =
+          rw (add-one n)
+          (record {
+            most = l;
+            free = gate-opens (beforeIn inService b) n (g .free)
+                (closes-row (suc n) ∙ (rw (ne-eqb (suc n) 15 (λ y. z (omega arith)), now-repeats, or-same, ← (add-one n)) e));
+            repeats = sym now-repeats;
+            two = g .two;
+          })
+
+  pub gated-all : {n : ℕ} {repeated : Bool} → Gated b engines n repeated → engines ≤ n → openAfter engines ≡ inServiceGate b engines
+  gated-all {n} g l = let m = g .most in let z : n ≡ engines = omega arith in rw z at (sym (g .free))

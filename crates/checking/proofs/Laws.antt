@@ -1,29 +1,19 @@
 -- What an accepted sheet says, and the check of a sheet with more bytes behind it.
-use Prim.Native.Nat.{ℕ, _+_, _/_, _%_, _≤_}
-use native.Mathlib.Omega.{arith}
-use mathlib.Core.Path.{_≡_, refl, sym, _∙_}
-use mathlib.Core.Bool.{Bool, true, false, cond}
-use mathlib.Core.List.{List, [], _∷_, _++_, append-nil, append-assoc}
-use lib.Dec.{eqb}
-use lib.ListN.{length, length-append}
-use borrow.Author.Tests.{eqb-true}
-use Rattle.rules.specs.Sheet.{Record, pollutants, records, cut, ofKind, declared, stopped, recordSize, longest, mostRecords}
+use Rattle.arithmetic.proofs.Basics.{ℕ, suc, _+_, _/_, _%_, add-one, arith, _≡_, refl, sym, _∙_, Bool, true, false, cond, List, [], _∷_, _++_, append-nil}
+use Rattle.arithmetic.proofs.Basics.{append-assoc, eqb, length, length-append, eqb-true, never, by-test}
+use Rattle.rules.specs.Sheet.{Record, pollutants, records, cut, stopKind, stopped, recordSize}
 use Rattle.rules.specs.Plans.{planOf}
-use Rattle.rules.specs.Refusals.{Check, accepted, refused, checkFrom, badLength, check}
-use Rattle.arithmetic.proofs.Booleans.{never}
+use Rattle.rules.specs.Refusals.{Check, accepted, refused, faultOf, checkFrom, badLength, check}
 use Rattle.accepted.specs.Sheets.{enginesIn, AcceptedSheet}
 use Rattle.accepted.proofs.Records.{records-append, length-records}
-use Rattle.accepted.proofs.Faultless.{Clean, length-fine, sound, check-clean}
-use Rattle.accepted.proofs.Engines.{counts}
-use Rattle.accepted.proofs.ByNumber.{in-order, limit-most}
+use Rattle.accepted.proofs.Faultless.{Clean, clean-of, cond-accepted, length-fine, sound, check-clean}
 use Rattle.faults.specs.declared.Summary.{Summary}
-use Rattle.faults.specs.State.{quantity, nothing, summaryWith, LimitRange, Limits}
-use Rattle.faults.proofs.Agreement.{Agrees, start, step}
+use Rattle.faults.specs.State.{nothing, summaryWith}
+use Rattle.faults.proofs.Agreement.{Agrees, start, step, fault-agrees}
 use Rattle.checking.specs.declared.Refusal.{Refusal}
 use Rattle.checking.specs.declared.Checked.{Checked}
 use Rattle.checking.specs.declared.Checked.the-variants as checked
 use Rattle.checking.specs.Check.{summaryFrom, summary, checkedBy, checkedOf, soFar, joinedOf, checkedFrom, Valid, AfterRanges}
-use Rattle.checking.proofs.Progress.{summary-append, checked-from}
 
 -- ---- the program's answer and document 01's
 
@@ -55,37 +45,35 @@ agrees-from before (r ∷ rs) s a c = rw append-assoc at (agrees-from (before ++
 pub agrees-clean : (rs : List Record) → Clean pollutants [] rs → Agrees rs (summary rs)
 agrees-clean rs c = agrees-from [] rs nothing start c
 
-limits-clean : (rs : List Record) → Clean pollutants [] rs → Limits (summary rs .limits)
-unfolding quantity declared ofKind
-limits-clean rs c = record { co = fits 1; hc = fits 2; nox = fits 3; pm = fits 4 }
-  where
-    fits : (p : ℕ) → LimitRange (quantity (summary rs .limits) p)
-    fits p =
-        let e = agrees-clean rs c .declaredIs .limitIs p in
-        record { most = rw e (limit-most pollutants 0 (declared rs) (in-order pollutants [] rs c) p) }
+pub summary-append : (s : Summary) (rs ts : List Record) → summaryFrom s (rs ++ ts) ≡ summaryFrom (summaryFrom s rs) ts
+unfolding summaryFrom
+summary-append s [] ts = refl
+summary-append s (r ∷ rs) ts = summary-append (summaryWith s r) rs ts
 
-counts-clean : (b : List ℕ) → Clean pollutants [] (records pollutants b)
-    → summary (records pollutants b) .head + summary (records pollutants b) .engines ≤ length b / recordSize
-counts-clean b c =
-    let a = agrees-clean (records pollutants b) c in
-    let p = a .headIs in
-    let q = a .enginesIs in
-    omega (arith, counts pollutants (records pollutants b) c, length-records pollutants b)
+-- the answer for records after others is document 01's
+checked-from : (before rs : List Record) (s : Summary) → Agrees before s
+    → checkedFrom s (length before) rs ≡ checkedBy (checkFrom pollutants before rs) (summaryFrom s rs)
+unfolding checkedFrom checkFrom summaryFrom
+checked-from before [] s a = refl
+checked-from before (r ∷ rs) s a =
+    let n = faultOf pollutants before r in
+    let all = before ++ (r ∷ []) in
+    let t = summaryWith s r in
+    let longer : length all ≡ suc (length before) = length-append before (r ∷ []) ∙ add-one (length before) in
+    rw (fault-agrees a r)
+    (by-test
+    (λ b.
+    cond b (checkedFrom t (suc (length before)) rs) (checked.Refused (record { number = n; place = length before }))
+    ≡ checkedBy (cond b (checkFrom pollutants all rs) (refused n (length before))) (summaryFrom t rs))
+    (eqb n 0) (λ q. rw longer at (checked-from all rs t (step a r (eqb-true n 0 q)))) (λ q. refl))
 
 -- ---- a whole sheet stands after nothing
 
 module _ {s : Summary} (e : s ≡ nothing) where
   pub whole-ranges : (n : ℕ) → badLength pollutants n ≡ false → AfterRanges s 0 n
-  unfolding nothing summaryFrom
+  unfolding summaryFrom checkFrom
   whole-ranges n f =
-      rw e
-      (record {
-        head = omega arith;
-        engines = omega arith;
-        place = omega arith;
-        limits = limits-clean [] tt;
-        length = length-fine pollutants n f .1 .1;
-      })
+      record { before = []; accepts = refl; says = e; many = refl; place = omega arith; length = length-fine pollutants n f .1 .1 }
 
   pub whole-checked : (b : List ℕ) → badLength pollutants (length b) ≡ false → checkedFrom s 0 (records pollutants b) ≡ checkedOf b
   unfolding checkedOf check
@@ -103,7 +91,7 @@ module _ {b : List ℕ} {s : Summary} (v : Valid b s) where
   pub engines-are : s .engines ≡ length (enginesIn b)
   engines-are = says-so .enginesIs
 
-  pub stopped-is : eqb (s .kind) 3 ≡ stopped (records pollutants b)
+  pub stopped-is : eqb (s .kind) stopKind ≡ stopped (records pollutants b)
   stopped-is = says-so .stoppedIs
 
 -- ---- bytes behind a sheet that is accepted or has none
@@ -120,20 +108,20 @@ refused-or false c said = refl
 module _ (b : List ℕ) {s : Summary} (e : soFar b ≡ checked.Accepted s) where
   record SoFar : Type 0 where
     whole : length b % recordSize ≡ 0
-    clean : Clean pollutants [] (records pollutants b)
+    accepts : checkFrom pollutants [] (records pollutants b) ≡ accepted
     says : s ≡ summary (records pollutants b)
 
   so-far : SoFar
-  unfolding soFar summaryFrom
-  so-far = cases (eqb (length b) 0) refl e
-    where
-      cases : (t : Bool) → eqb (length b) 0 ≡ t → cond t (checked.Accepted nothing) (checkedOf b) ≡ checked.Accepted s → SoFar
-      cases true q h =
-          let z = eqb-true (length b) 0 q in
-          record { whole = omega arith; clean = rw (no-records b z) tt; says = rw (no-records b z) (cc) }
-      cases false q h =
-          let a = accepted-sheet b h in
-          record { whole = sound pollutants b (a .0) .whole; clean = sound pollutants b (a .0) .clean; says = a .1 }
+  unfolding soFar summaryFrom checkFrom check
+  so-far =
+      by-test (λ t. cond t (checked.Accepted nothing) (checkedOf b) ≡ checked.Accepted s → SoFar) (eqb (length b) 0)
+      (λ q h.
+      let z = eqb-true (length b) 0 q in
+      record { whole = omega arith; accepts = rw (no-records b z) refl; says = rw (no-records b z) (cc) })
+      (λ q h.
+      let a = accepted-sheet b h in
+      record { whole = sound pollutants b (a .0) .whole; accepts = cond-accepted (badLength pollutants (length b)) _ (a .0) .1; says = a .1 })
+      e
 
 module _ (b more : List ℕ) {c : Checked} (e : c ≡ soFar b) where
   pub joined-refused : {f : Refusal} → c ≡ checked.Refused f → c ≡ joinedOf b more
@@ -147,6 +135,9 @@ module _ (b more : List ℕ) {c : Checked} (e : c ≡ soFar b) where
     said : SoFar b (sym e ∙ p)
     said = so-far b (sym e ∙ p)
 
+    clean : Clean pollutants [] rs
+    clean = clean-of pollutants [] rs (said .accepts)
+
     joined-is : joinedOf b more
         ≡ cond (badLength pollutants (length b + length more)) (checked.Refused (record { number = 1; place = 0 }))
         (checkedFrom s (length b / recordSize) (records pollutants more))
@@ -154,13 +145,13 @@ module _ (b more : List ℕ) {c : Checked} (e : c ≡ soFar b) where
     joined-is =
         let f : checkedFrom (summary rs) (length b / recordSize) (records pollutants more)
         ≡ checkedBy (checkFrom pollutants rs (records pollutants more)) (summaryFrom (summary rs) (records pollutants more)) =
-        rw (length-records pollutants b) at (checked-from rs (records pollutants more) (summary rs) (agrees-clean rs (said .clean))) in
+        rw (length-records pollutants b) at (checked-from rs (records pollutants more) (summary rs) (agrees-clean rs clean)) in
         rw (
           sym e ∙ p,
           said .says,
           length-append b more,
           records-append pollutants b more (said .whole),
-          check-clean pollutants [] rs (records pollutants more) (said .clean),
+          check-clean pollutants [] rs (records pollutants more) clean,
           summary-append nothing rs (records pollutants more),
           f,
         )
@@ -171,18 +162,17 @@ module _ (b more : List ℕ) {c : Checked} (e : c ≡ soFar b) where
     joined-bad h q = q ∙ sym (rw h at joined-is)
 
     module _ (h : badLength pollutants (length b + length more) ≡ false) where
-      pub joined-ranges : {k : ℕ} → k ≤ mostRecords → AfterRanges s k (length more)
-      joined-ranges f =
-          let n = counts-clean b (said .clean) in
+      pub joined-ranges : AfterRanges s (length b / recordSize) (length more)
+      joined-ranges =
           let l = length-fine pollutants (length b + length more) h .1 .1 in
-          rw (said .says)
-          (record {
-            head = omega arith;
-            engines = omega arith;
-            place = f;
-            limits = limits-clean rs (said .clean);
+          record {
+            before = rs;
+            accepts = said .accepts;
+            says = said .says;
+            many = length-records pollutants b;
+            place = omega arith;
             length = omega arith;
-          })
+          }
 
       pub joined-after : {d : Checked} → d ≡ checkedFrom s (length b / recordSize) (records pollutants more) → d ≡ joinedOf b more
       joined-after q = q ∙ sym (rw h at joined-is)

@@ -1,75 +1,32 @@
--- The check of records after others, a record at a time: what is left to check is the answer, and the answer is document 01's.
-use Prim.Native.Nat.{ℕ, suc, _+_, _*_, _/_, _≤_, _<_}
-use native.Mathlib.Nat.{add-zero, add-suc}
-use native.Mathlib.Numerals.{add-one}
-use native.Mathlib.Omega.{arith}
-use mathlib.Core.Path.{_≡_, refl, sym, ap, _∙_}
-use mathlib.Core.Bool.{Bool, true, false, cond}
-use mathlib.Core.List.{List, [], _∷_, _++_}
-use lib.Dec.{eqb}
-use lib.ListN.{length, length-append, take, drop, drop-of-length-le}
-use lib.Seq.{drop-cons}
-use borrow.Author.Tests.{eqb-true, ne-eqb}
-use Rattle.rules.specs.Sheet.{Record, pollutants, records, kind, recordSize}
-use Rattle.rules.specs.Refusals.{faultOf, refused, checkFrom}
+-- The check of records after others, a record at a time: what is left to check is the answer.
+use Rattle.arithmetic.proofs.Basics.{ℕ, suc, _+_, _*_, _/_, _≤_, _<_, add-zero, add-suc, add-one, arith, _≡_, refl, sym, ap, _∙_, cond, List, [], _∷_, _++_}
+use Rattle.arithmetic.proofs.Basics.{eqb, length, length-append, take, drop, drop-of-length-le, drop-cons, ne-eqb}
+use Rattle.rules.specs.Sheet.{Record, pollutants, records, recordSize}
 use Rattle.accepted.proofs.Records.{record-at, length-records}
+use Rattle.accepted.proofs.Faultless.{clean-of}
 use Rattle.faults.specs.declared.Summary.{Summary}
-use Rattle.faults.specs.State.{summaryWith, withPollutant, withEngine, withStop, Room, Limits}
+use Rattle.faults.specs.State.{summaryWith, Room}
 use Rattle.faults.specs.Faults.{faultBy}
-use Rattle.faults.proofs.Limits.{limits-kept}
-use Rattle.faults.proofs.Agreement.{Agrees, step, fault-agrees}
+use Rattle.faults.proofs.Agreement.{Agrees, step, fault-agrees, counts-fit}
 use Rattle.checking.specs.declared.Checked.the-variants as checked
-use Rattle.checking.specs.Check.{summaryFrom, checkedBy, checkedFrom, AfterRanges}
+use Rattle.checking.specs.Check.{checkedFrom, AfterRanges}
+use Rattle.checking.proofs.Laws.{agrees-clean}
 
-pub summary-append : (s : Summary) (rs ts : List Record) → summaryFrom s (rs ++ ts) ≡ summaryFrom (summaryFrom s rs) ts
-unfolding summaryFrom
-summary-append s [] ts = refl
-summary-append s (r ∷ rs) ts = summary-append (summaryWith s r) rs ts
-
--- a record adds at most one to each count
-counted : (s : Summary) (r : Record) → (summaryWith s r .head ≤ suc (s .head)) × (summaryWith s r .engines ≤ suc (s .engines))
-unfolding summaryWith withPollutant withEngine withStop
-counted s r = cases (eqb (kind r) 1) (eqb (kind r) 2)
-  where
-    cases : (x y : Bool) → let t = cond x (withPollutant s r) (cond y (withEngine s) (withStop s)) in
-        (t .head ≤ suc (s .head)) × (t .engines ≤ suc (s .engines))
-    cases true y = (omega arith, omega arith)
-    cases false true = (omega arith, omega arith)
-    cases false false = (omega arith, omega arith)
-
--- ---- document 01's answer
-
-pub checked-from : (before rs : List Record) (s : Summary) → Agrees before s
-    → checkedFrom s (length before) rs ≡ checkedBy (checkFrom pollutants before rs) (summaryFrom s rs)
-unfolding checkedFrom checkFrom summaryFrom
-checked-from before [] s a = refl
-checked-from before (r ∷ rs) s a =
-    rw (fault-agrees a r)
-    (cases (eqb (faultOf pollutants before r) 0) refl
-    (λ z. checked-from (before ++ (r ∷ [])) rs (summaryWith s r) (step a r z)))
-  where
-    cases : (t : Bool) → eqb (faultOf pollutants before r) 0 ≡ t
-        → (faultOf pollutants before r ≡ 0 → checkedFrom (summaryWith s r) (length (before ++ (r ∷ []))) rs
-        ≡ checkedBy (checkFrom pollutants (before ++ (r ∷ [])) rs) (summaryFrom (summaryWith s r) rs))
-        → cond t (checkedFrom (summaryWith s r) (suc (length before)) rs)
-        (checked.Refused (record { number = faultOf pollutants before r; place = length before }))
-        ≡ checkedBy (cond t (checkFrom pollutants (before ++ (r ∷ [])) rs) (refused (faultOf pollutants before r) (length before)))
-        (summaryFrom (summaryWith s r) rs)
-    cases true q rest =
-        let longer : length (before ++ (r ∷ [])) ≡ suc (length before) = length-append before (r ∷ []) ∙ add-one (length before) in
-        rw longer at (rest (eqb-true (faultOf pollutants before r) 0 q))
-    cases false q rest = refl
-
--- ---- the loop
-
+-- behind k of the records rs, what was reached tells of all that were seen
 pub record Progress (s : Summary) (first : ℕ) (rs : List Record) (k : ℕ) (reached : Summary) : Type 0 where
-  pub head : reached .head ≤ s .head + k
-  pub engines : reached .engines ≤ s .engines + k
-  pub limits : Limits (reached .limits)
+  pub seen : List Record
+  pub many : length seen ≡ first + k
+  pub agrees : Agrees seen reached
   pub left : checkedFrom reached (first + k) (drop k rs) ≡ checkedFrom s first rs
 
-pub begin : (s : Summary) (first : ℕ) (rs : List Record) → Limits (s .limits) → Progress s first rs 0 s
-begin s first rs l = record { head = omega arith; engines = omega arith; limits = l; left = rw add-zero refl }
+pub begin : {s : Summary} {first n : ℕ} (rs : List Record) → AfterRanges s first n → Progress s first rs 0 s
+begin rs a =
+    record {
+      seen = a .before;
+      many = rw add-zero (a .many);
+      agrees = rw (a .says) (agrees-clean (a .before) (clean-of pollutants [] (a .before) (a .accepts)));
+      left = rw add-zero refl;
+    }
 
 module _ {s : Summary} {first : ℕ} (b : List ℕ) (k : ℕ) {t : Summary} (g : Progress s first (records pollutants b) k t) where
   abbrev rs : List Record
@@ -84,9 +41,10 @@ module _ {s : Summary} {first : ℕ} (b : List ℕ) (k : ℕ) {t : Summary} (g :
   module _ (h : k < length b / recordSize) where
     pub room : AfterRanges s first (length b) → Room t
     room a =
-        let p = g .head in
-        let e = g .engines in
-        record { head = omega (arith, a .head, a .length); engines = omega (arith, a .engines, a .length) }
+        let l = a .length in
+        let c = counts-fit (g .agrees) in
+        let m = g .many in
+        record { head = omega (arith, a .place); engines = omega (arith, a .place) }
 
     module _ {r : Record} {n : ℕ} (e : r ≡ take recordSize (drop (recordSize * k) b)) (f : n ≡ faultBy t r) where
       split : drop k rs ≡ r ∷ drop (suc k) rs
@@ -105,13 +63,10 @@ module _ {s : Summary} {first : ℕ} (b : List ℕ) (k : ℕ) {t : Summary} (g :
 
       pub next : n ≡ 0 → {u : Summary} → u ≡ summaryWith t r → Progress s first rs (k + 1) u
       next z p =
-          let c = counted t r in
-          let x = g .head in
-          let y = g .engines in
           rw (p, add-one k)
           (record {
-            head = omega (arith, c .0);
-            engines = omega (arith, c .1);
-            limits = limits-kept t r (g .limits) (sym f ∙ z);
+            seen = g .seen ++ (r ∷ []);
+            many = rw (length-append (g .seen) (r ∷ []), g .many) (omega arith);
+            agrees = step (g .agrees) r (sym (fault-agrees (g .agrees) r) ∙ sym f ∙ z);
             left = rw (z, ← add-suc first k) at opened;
           })

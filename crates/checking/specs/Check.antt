@@ -6,9 +6,9 @@ use mathlib.Core.List.{List, [], _∷_, _++_}
 use lib.Dec.{eqb}
 use lib.ListN.{length}
 use Rattle.rules.specs.Sheet.{Record, pollutants, records, longest, mostRecords}
-use Rattle.rules.specs.Refusals.{Check, accepted, refused, check}
+use Rattle.rules.specs.Refusals.{Check, accepted, refused, checkFrom, check}
 use Rattle.faults.specs.declared.Summary.{Summary}
-use Rattle.faults.specs.State.{nothing, summaryWith, Limits}
+use Rattle.faults.specs.State.{nothing, summaryWith}
 use Rattle.faults.specs.Faults.{faultBy}
 use Rattle.checking.specs.declared.Checked.{Checked}
 use Rattle.checking.specs.declared.Checked.the-variants as checked
@@ -51,10 +51,11 @@ checkedFrom s k [] = checked.Accepted s
 checkedFrom s k (r ∷ rs) =
     cond (eqb (faultBy s r) 0) (checkedFrom (summaryWith s r) (suc k) rs) (checked.Refused (record { number = faultBy s r; place = k }))
 
--- what n bytes of records must leave room for after those of which s tells: a sheet has at most 37 records, and limits in range
+-- n bytes of records after k others, in which there is no fault and of which s tells: no more than a sheet has
 pub record AfterRanges (s : Summary) (k n : ℕ) : Type 0 where
-  pub head : s .head ≤ mostRecords
-  pub engines : s .engines ≤ mostRecords
+  pub before : List Record
+  pub accepts : checkFrom pollutants [] before ≡ accepted
+  pub says : s ≡ summary before
+  pub many : length before ≡ k
   pub place : k ≤ mostRecords
-  pub limits : Limits (s .limits)
   pub length : n ≤ longest

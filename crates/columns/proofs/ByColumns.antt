@@ -1,91 +1,73 @@
--- Judging row by row, with all declared pollutants together, is judging by columns: for any number of pollutants, but for none.
-use Prim.Native.Nat.{ℕ, zero, suc, _≤_}
-use native.Mathlib.Omega.{arith}
-use mathlib.Core.Path.{_≡_, refl, sym, ap, _∙_}
-use mathlib.Core.Bool.{Bool, true, false, _||_}
-use mathlib.Core.List.{List, [], _∷_, map}
-use lib.ListN.{length}
-use Rattle.rules.specs.Sheet.{Record, Pollutant, engines, stopped, declared, planNumber}
+-- Judging row by row, with all declared pollutants together, is judging by columns, one pollutant after the other: for any number of
+-- pollutants, but for none.
+use Rattle.arithmetic.proofs.Basics.{ℕ, suc, _≤_, arith, _≡_, refl, sym, ap, fun-ext, _∙_, Bool, true, false, List, [], _∷_, map, map-map, length, never}
+use Rattle.arithmetic.proofs.Basics.{and-true}
+use Rattle.rules.specs.Sheet.{Record, Pollutant, numbers, engines, stopped, declared, planNumber}
 use Rattle.rules.specs.Plans.{Plan, planOf}
-use Rattle.rules.specs.Series.{Decision, Standing, Series, passed, failed, hasFailed, hasPassed, after, answer, judgeRecords}
-use Rattle.arithmetic.proofs.Booleans.{never, and-true, by-test}
-use Rattle.columns.specs.Columns.{beforeOf, rowOf, columnOf, Gate, openAfter, causeAfter, referralAfter, rowsOf, gate, cutAt, someFailed, allPassed, leastFail, greatestPass, closedBy, combine, columnsAt, byColumns, judgeByColumns}
-use Rattle.columns.proofs.Cut.{passed-kept, Column, is-column, columns-cut}
-use Rattle.columns.proofs.Walk.{Outcome, goes, passes, fails, causes, refers, walked}
-use Rattle.columns.proofs.Rows.{least-is, least-none, some-kept, AllWithin, greatest-is}
-
-pub combine-none : (g : Gate) (ss : List Standing) → someFailed ss ≡ false → allPassed ss ≡ false → closedBy g ss ≡ combine g ss
-unfolding combine
-combine-none g ss f p = rw (f, p) refl
-
-pub combine-passed : (g : Gate) (ss : List Standing) → someFailed ss ≡ false → allPassed ss ≡ true → passed (greatestPass 0 ss) ss ≡ combine g ss
-unfolding combine
-combine-passed g ss f p = rw (f, p) refl
-
-pub combine-failed : (g : Gate) (ss : List Standing) → someFailed ss ≡ true
-    → failed (leastFail (rowsOf g) ss) 1 (map (cutAt (leastFail (rowsOf g) ss)) ss) ≡ combine g ss
-unfolding combine
-combine-failed g ss f = rw f refl
+use Rattle.rules.specs.Series.{Decision, isOpen, Standing, Series, hasPassed, decisionOf, pairOf, pairs, answer, judgeRecords}
+use Rattle.columns.specs.Columns.{beforeOf, rowOf, columnOf, Gate, openAfter, causeAfter, referralAfter, rowsOf, gate, upTo, allPassed, columnsAt}
+use Rattle.columns.specs.Tally.{Tally, started, tally, endedBy, tallied, judgeByTally}
+use Rattle.columns.proofs.Cut.{Column, is-column, stays}
+use Rattle.columns.proofs.Walk.{closedBy, Outcome, rests, passes, fails, walked}
+use Rattle.columns.proofs.Numbers.{Rising, valueOr, puts-numbers}
+use Rattle.columns.proofs.Tally.{tally-fails, tally-passes, tally-rests, tally-decisions}
 
 module _ (c : Pollutant → ℕ → Decision) (h : (p : Pollutant) → Column (c p)) where
-  columns-within : (n : ℕ) (ps : List Pollutant) → AllWithin n (columnsAt c n ps)
-  columns-within n [] = tt
-  columns-within n (p ∷ ps) = (h p .within n, columns-within n ps)
-
   -- where all have passed, nothing more is looked at
   passed-stay : (m n : ℕ) → m ≤ n → (ps : List Pollutant) → allPassed (columnsAt c m ps) ≡ true → columnsAt c m ps ≡ columnsAt c n ps
   passed-stay m n l [] e = refl
   passed-stay m n l (p ∷ ps) e =
       let f = and-true (hasPassed (c p m)) (allPassed (columnsAt c m ps)) e in
-      let k = h p .cut m n l in
-      rw (sym k ∙ passed-kept m (c p n) (ap hasPassed k ∙ f .0), passed-stay m n l ps (f .1)) refl
+      rw (stays (h p) hasPassed refl m n l (f .0), passed-stay m n l ps (f .1)) refl
 
-  module _ (ps : List Pollutant) where
+  value-is : (n m : ℕ) (ps : List Pollutant) → valueOr n isOpen (λ p. c p m) ps ≡ decisionOf n (columnsAt c m ps)
+  value-is n m [] = refl
+  value-is n m (p ∷ ps) = rw (value-is n m ps) refl
+
+  module _ (w : ℕ) (ps : List Pollutant) (rising : Rising 0 ps) (g : Gate) where
     abbrev stand : ℕ → List Standing
     stand n = columnsAt c n ps
 
-    -- columns that are as these to row m + 1, where the first of them fail
-    fails-as : (g : Gate) (m : ℕ) → suc m ≤ rowsOf g → someFailed (stand m) ≡ false → someFailed (stand (suc m)) ≡ true
-        → (ss : List Standing) → map (cutAt m) ss ≡ stand m → map (cutAt (suc m)) ss ≡ stand (suc m)
-        → failed (suc m) 1 (stand (suc m)) ≡ combine g ss
-    fails-as g m l o f ss low cut =
-        let some : someFailed (map (cutAt (suc m)) ss) ≡ true = ap someFailed cut ∙ f in
-        let least : leastFail (rowsOf g) ss ≡ suc m = least-is m (rowsOf g) ss (ap someFailed low ∙ o) some l in
-        sym (ap (λ (x : ℕ). failed x 1 (map (cutAt x) ss)) least ∙ ap (λ (xs : List Standing). failed (suc m) 1 xs) cut)
-        ∙ combine-failed g ss (some-kept (suc m) ss some)
+    abbrev final : Tally
+    final = tally c ps (started w (rowsOf g))
 
-    fails-combined : (g : Gate) (m : ℕ) → suc m ≤ rowsOf g → someFailed (stand m) ≡ false → someFailed (stand (suc m)) ≡ true
-        → failed (suc m) 1 (stand (suc m)) ≡ combine g (stand (rowsOf g))
-    fails-combined g m l o f =
-        fails-as g m l o f (stand (rowsOf g)) (columns-cut c h m (rowsOf g) (omega arith) ps) (columns-cut c h (suc m) (rowsOf g) l ps)
+    final-pairs : (m : ℕ) → final .rows ≡ m → map (λ d. pairOf (upTo m d)) (final .decisions) ≡ pairs w (stand m)
+    unfolding started pairs
+    final-pairs m e =
+        sym (map-map pairOf (upTo m) (final .decisions))
+        ∙ (rw (
+          tally-decisions c h m ps (started w (rowsOf g)) (rw e (omega arith)),
+          map-map (upTo m) (λ p. isOpen) (numbers w),
+          puts-numbers (λ p. c p m) w ps (λ p. isOpen) 0 rising,
+          map-map pairOf (λ n. valueOr n isOpen (λ p. c p m) ps) (numbers w),
+        ) (ap (λ (v : ℕ → Decision). map (λ n. pairOf (v n)) (numbers w)) (fun-ext (λ n. value-is n m ps))))
 
-    passes-combined : (g : Gate) (m : ℕ) → suc m ≤ rowsOf g → someFailed (stand (suc m)) ≡ false → allPassed (stand m) ≡ false
-        → allPassed (stand (suc m)) ≡ true → passed (suc m) (stand (suc m)) ≡ combine g (stand (rowsOf g))
-    passes-combined g m l f o p =
-        let s : stand (suc m) ≡ stand (rowsOf g) = passed-stay (suc m) (rowsOf g) l ps p in
-        let low : map (cutAt m) (stand (suc m)) ≡ stand m = columns-cut c h m (suc m) (omega arith) ps in
-        let most : greatestPass 0 (stand (suc m)) ≡ suc m =
-        greatest-is m 0 (stand (suc m)) (columns-within (suc m) ps) p (ap allPassed low ∙ o) (omega arith) in
-        ap (λ (x : ℕ). passed x (stand (suc m))) (sym most) ∙ combine-passed g (stand (suc m)) f p ∙ ap (combine g) s
+    closed-answer : (stop : Bool) (n : ℕ) (x : Gate) (ss : List Standing) → answer w stop n (closedBy x ss) ≡ endedBy stop n x (pairs w ss)
+    closed-answer true n (openAfter m) ss = refl
+    closed-answer false n (openAfter m) ss = refl
+    closed-answer stop n (causeAfter m) ss = refl
+    closed-answer stop n (referralAfter m) ss = refl
 
-    pub outcome-combined : (g : Gate) (n : ℕ) (s : Series) → Outcome g stand n s → s ≡ combine g (stand (rowsOf g))
-    outcome-combined g n s (goes o f p) = rw o (combine-none (openAfter n) (stand n) f p)
-    outcome-combined g n s (passes m l f o p) = passes-combined g m l f o p
-    outcome-combined g n s (fails m l o f) = fails-combined g m l o f
-    outcome-combined g n s (causes m o f p) = rw o (combine-none (causeAfter m) (stand m) f p)
-    outcome-combined g n s (refers m o f p) = rw o (combine-none (referralAfter m) (stand m) f p)
+    judged : (stop : Bool) (n : ℕ) (s : Series) → Outcome g stand s → answer w stop n s ≡ tallied stop n g final
+    unfolding tallied started
+    judged stop n s (rests f p) =
+        let u = tally-rests c h (rowsOf g) ps (started w (rowsOf g)) f (record { rows = refl; failed = refl; waits = λ z. never (sym z ∙ p) }) in
+        rw (u .failed, u .waits refl, u .rows, final-pairs (rowsOf g) (u .rows)) (closed-answer stop n g (stand (rowsOf g)))
+    judged stop n s (passes m l o p) =
+        let u = tally-passes c h (rowsOf g) m l ps (started w (rowsOf g)) p
+        (record { rows = refl; failed = refl; waits = refl; most = omega arith; here = λ z. never (sym z ∙ o) }) in
+        rw (u .failed, u .waits, u .rows, u .here refl, final-pairs (rowsOf g) (u .rows), passed-stay (suc m) (rowsOf g) l ps p) refl
+    judged stop n s (fails m l o f) =
+        let u = tally-fails c h m ps (started w (rowsOf g)) o (record { later = l; here = λ z. never (sym f ∙ z) }) .here refl in
+        rw (u .1, u .0, final-pairs (suc m) (u .0)) refl
 
 -- ---- the law
 
-pub after-by-columns : (plan : Plan) (ps : List Pollutant) (q : ℕ) (es : List Record) (n : ℕ) → 1 ≤ length ps
-    → after plan ps q es n ≡ byColumns plan ps q es n
-unfolding byColumns
-after-by-columns plan ps q es n l =
-    outcome-combined (columnOf plan ps q es) (λ p. is-column (beforeOf plan ps es) (rowOf plan q es p)) ps
-    (gate (beforeOf plan ps es) n) n (after plan ps q es n) (walked plan ps q es l n)
-
-pub by-columns : (w q : ℕ) (rs : List Record) → 1 ≤ length (declared rs) → judgeRecords w q rs ≡ judgeByColumns w q rs
-unfolding judgeRecords judgeByColumns
-by-columns w q rs l =
-    ap (answer w (stopped rs) (length (engines rs)))
-    (after-by-columns (planOf (planNumber rs)) (declared rs) q (engines rs) (length (engines rs)) l)
+pub by-columns : (w q : ℕ) (rs : List Record) → 1 ≤ length (declared rs) → Rising 0 (declared rs) → judgeRecords w q rs ≡ judgeByTally w q rs
+unfolding judgeRecords judgeByTally
+by-columns w q rs l r =
+    let plan : Plan = planOf (planNumber rs) in
+    let ps : List Pollutant = declared rs in
+    let es : List Record = engines rs in
+    judged (columnOf plan ps q es) (λ p. is-column (beforeOf plan ps es) (rowOf plan q es p)) w ps r (gate (beforeOf plan ps es) (length es))
+    (stopped rs) (length es) _ (walked plan ps q es l (length es))

@@ -1,7 +1,6 @@
 pub mod Cut
 pub mod Gates
 pub mod Walk
-pub mod Rows
 pub mod ByColumns
 pub mod Numbers
 pub mod Tally

@@ -1,8 +1,5 @@
 -- An accepted sheet declares a pollutant, and its pollutants' numbers rise: so its answer is the tally of its columns.
-use Prim.Native.Nat.{ℕ}
-use mathlib.Core.Path.{_≡_}
-use mathlib.Core.Bool.{false}
-use mathlib.Core.List.{List, [], _∷_, map}
+use Rattle.arithmetic.proofs.Basics.{ℕ, _≡_, false, List, [], _∷_, map}
 use Rattle.rules.specs.Sheet.{Pollutant, pollutants, numbers, records, declares}
 use Rattle.rules.specs.Plans.{Plan}
 use Rattle.rules.specs.Series.{judgeRecords}
@@ -11,7 +8,7 @@ use Rattle.accepted.proofs.ByNumber.{InOrder}
 use Rattle.accepted.proofs.Sheets.{clean, order, some-record, some-declared}
 use Rattle.columns.specs.Tally.{judgeByTally, marked}
 use Rattle.columns.proofs.Numbers.{Rising}
-use Rattle.columns.proofs.Tally.{by-tally}
+use Rattle.columns.proofs.ByColumns.{by-columns}
 use Rattle.columns.proofs.Marks.{marks-are}
 
 rising : (w m : ℕ) (ps : List Pollutant) → InOrder w m ps → Rising m ps
@@ -24,7 +21,7 @@ module _ {b : List ℕ} {plan : Plan} {start : ℕ} (s : AcceptedSheet b plan st
 
   pub sheet-by-tally : (q : ℕ) → judgeRecords pollutants q (records pollutants b) ≡ judgeByTally pollutants q (records pollutants b)
   sheet-by-tally q =
-      by-tally pollutants q (records pollutants b) (some-declared pollutants (records pollutants b) (some-record s) (clean s)) sheet-rising
+      by-columns pollutants q (records pollutants b) (some-declared pollutants (records pollutants b) (some-record s) (clean s)) sheet-rising
 
   pub declared-marks : marked (pollutantsIn b) (map (λ p. false) (numbers pollutants)) ≡ map (declares (pollutantsIn b)) (numbers pollutants)
-  declared-marks = marks-are pollutants (pollutantsIn b) (λ p. false) 0 sheet-rising
+  declared-marks = marks-are pollutants (pollutantsIn b) sheet-rising

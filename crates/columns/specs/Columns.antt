@@ -1,14 +1,15 @@
 -- Judging by columns: the second form of document 01's "The series", one declared pollutant at a time, for any number of them.
--- proofs/ByColumns shows it equal to the definition.
+-- Here a column and the rows that may be looked at; specs/Tally has the columns one after the other, and proofs/ByColumns shows the
+-- answer equal to the definition's.
 use Prim.Native.Nat.{ℕ, zero, suc}
 use mathlib.Core.Bool.{Bool, true, false, cond}
-use mathlib.Core.List.{List, [], _∷_, map}
-use lib.Dec.{leb, ltb}
-use lib.ListN.{length, take}
+use mathlib.Core.List.{List, map}
+use lib.Dec.{leb}
+use lib.ListN.{take}
 use Rattle.rules.specs.Tools.{any, all}
-use Rattle.rules.specs.Sheet.{Record, Pollutant, measurement, engines, stopped, declared, planNumber}
-use Rattle.rules.specs.Plans.{Plan, planOf, Row, row}
-use Rattle.rules.specs.Series.{Decision, isOpen, passedAt, failedAt, Standing, Series, ongoing, passed, failed, referred, Before, early, equalCause, referral, leftOpen, statistics, beforeRow, lookedAt, hasFailed, hasPassed, Answer, answer}
+use Rattle.rules.specs.Sheet.{Record, Pollutant, measurement}
+use Rattle.rules.specs.Plans.{Plan, Row, row}
+use Rattle.rules.specs.Series.{Decision, isOpen, passedAt, failedAt, Standing, Before, early, equalCause, referral, leftOpen, statistics, beforeRow, lookedAt, hasFailed, hasPassed}
 
 -- ---- one column: a pollutant's decision as if it were alone, but for what comes before each row
 
@@ -79,58 +80,12 @@ upTo m isOpen = isOpen
 upTo m (passedAt n) = cond (leb n m) (passedAt n) isOpen
 upTo m (failedAt n) = cond (leb n m) (failedAt n) isOpen
 
-abbrev pub cutAt : (m : ℕ) → Standing → Standing
-cutAt m s = record { pollutant = s .pollutant; decision = upTo m (s .decision) }
+-- the standings after n rows of the columns c
+abbrev pub columnsAt : (c : Pollutant → ℕ → Decision) → (n : ℕ) → List Pollutant → List Standing
+columnsAt c n ps = map (λ p. record { pollutant = p; decision = c p n }) ps
 
 abbrev pub someFailed : List Standing → Bool
 someFailed ss = any (λ s. hasFailed (s .decision)) ss
 
 abbrev pub allPassed : List Standing → Bool
 allPassed ss = all (λ s. hasPassed (s .decision)) ss
-
--- the least failing row, m where none is lower
-abbrev pub sooner : Decision → (m : ℕ) → ℕ
-sooner isOpen m = m
-sooner (passedAt n) m = m
-sooner (failedAt n) m = cond (ltb n m) n m
-
-abbrev pub leastFail : (m : ℕ) → List Standing → ℕ
-leastFail m [] = m
-leastFail m (s ∷ ss) = leastFail (sooner (s .decision) m) ss
-
--- the greatest passing row, m where none is higher
-abbrev pub later : Decision → (m : ℕ) → ℕ
-later isOpen m = m
-later (passedAt n) m = cond (ltb m n) n m
-later (failedAt n) m = m
-
-abbrev pub greatestPass : (m : ℕ) → List Standing → ℕ
-greatestPass m [] = m
-greatestPass m (s ∷ ss) = greatestPass (later (s .decision) m) ss
-
--- where the gate has closed, the series ends at the row behind
-abbrev pub closedBy : Gate → List Standing → Series
-closedBy (openAfter n) ss = ongoing ss
-closedBy (causeAfter n) ss = failed (suc n) 2 ss
-closedBy (referralAfter n) ss = referred (suc n) ss
-
-abbrev pub combineBy : (anyFailed allPassed : Bool) → Gate → List Standing → Series
-combineBy true all g ss = failed (leastFail (rowsOf g) ss) 1 (map (cutAt (leastFail (rowsOf g) ss)) ss)
-combineBy false true g ss = passed (greatestPass 0 ss) ss
-combineBy false false g ss = closedBy g ss
-
--- the columns of the rows that the gate leaves: the series of all of them
-unfoldable pub combine : Gate → List Standing → Series
-combine g ss = combineBy (someFailed ss) (allPassed ss) g ss
-
--- the standings after n rows of the columns c
-abbrev pub columnsAt : (c : Pollutant → ℕ → Decision) → (n : ℕ) → List Pollutant → List Standing
-columnsAt c n ps = map (λ p. record { pollutant = p; decision = c p n }) ps
-
-unfoldable pub byColumns : Plan → List Pollutant → (q : ℕ) → (es : List Record) → (n : ℕ) → Series
-byColumns plan ps q es n =
-    let g = gate (beforeOf plan ps es) n in combine g (columnsAt (columnOf plan ps q es) (rowsOf g) ps)
-
-unfoldable pub judgeByColumns : (w q : ℕ) → List Record → Answer
-judgeByColumns w q rs =
-    answer w (stopped rs) (length (engines rs)) (byColumns (planOf (planNumber rs)) (declared rs) q (engines rs) (length (engines rs)))

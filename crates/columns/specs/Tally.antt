@@ -1,13 +1,14 @@
 -- The columns as the program goes through them: each to the least failing row so far, its decision kept by the pollutant's number.
--- proofs/Tally shows the answer equal to the definition's.
+-- proofs/ByColumns shows the answer equal to the definition's.
 use Prim.Native.Nat.{ℕ, zero, suc}
-use mathlib.Core.Bool.{Bool, true, false}
+use mathlib.Core.Bool.{Bool, true, false, cond}
 use mathlib.Core.List.{List, [], _∷_, map}
+use lib.Dec.{ltb}
 use lib.ListN.{length}
-use Rattle.rules.specs.Sheet.{Record, Pollutant, engines, stopped, declared, planNumber}
+use Rattle.rules.specs.Sheet.{Record, Pollutant, numbers, engines, stopped, declared, planNumber}
 use Rattle.rules.specs.Plans.{planOf}
 use Rattle.rules.specs.Series.{Decision, isOpen, passedAt, failedAt, Pair, pairOf, Answer, judgement}
-use Rattle.columns.specs.Columns.{columnOf, beforeOf, Gate, openAfter, causeAfter, referralAfter, rowsOf, gate, upTo, later}
+use Rattle.columns.specs.Columns.{columnOf, beforeOf, Gate, openAfter, causeAfter, referralAfter, rowsOf, gate, upTo}
 
 -- what the columns so far say: the rows that count for the next, whether one has failed, whether one is open, the latest pass,
 -- and the decision of each pollutant, 1 first
@@ -18,28 +19,29 @@ pub record Tally : Type 0 where
   pub latest : ℕ
   pub decisions : List Decision
 
-abbrev pub opens : (w : ℕ) → List Decision
-opens zero = []
-opens (suc w) = isOpen ∷ opens w
-
 -- before the first column, of the rows that the gate leaves
 unfoldable pub started : (w rows : ℕ) → Tally
-started w rows = record { rows = rows; failed = false; waits = false; latest = 0; decisions = opens w }
+started w rows = record { rows = rows; failed = false; waits = false; latest = 0; decisions = map (λ p. isOpen) (numbers w) }
 
--- x in place p of the list, counted from 1
 module _ {A : Type 0} where
+  -- x in place p of the list, counted from 1
   abbrev pub put : (p : ℕ) → A → List A → List A
   put p x [] = []
   put zero x (y ∷ ys) = y ∷ ys
   put (suc zero) x (y ∷ ys) = x ∷ ys
   put (suc (suc p)) x (y ∷ ys) = y ∷ put (suc p) x ys
 
+  -- what f says of each pollutant, in the place of its number
+  abbrev pub puts : (f : Pollutant → A) → List Pollutant → List A → List A
+  puts f [] xs = xs
+  puts f (p ∷ ps) xs = puts f ps (put (p .number) (f p) xs)
+
 -- with the column of the pollutant p
 unfoldable pub counted : (p : ℕ) → Decision → Tally → Tally
 counted p isOpen t =
     record { rows = t .rows; failed = t .failed; waits = true; latest = t .latest; decisions = put p isOpen (t .decisions) }
 counted p (passedAt n) t =
-    record { rows = t .rows; failed = t .failed; waits = t .waits; latest = later (passedAt n) (t .latest); decisions = put p (passedAt n) (t .decisions) }
+    record { rows = t .rows; failed = t .failed; waits = t .waits; latest = cond (ltb (t .latest) n) n (t .latest); decisions = put p (passedAt n) (t .decisions) }
 counted p (failedAt n) t =
     record { rows = n; failed = true; waits = t .waits; latest = t .latest; decisions = put p (failedAt n) (t .decisions) }
 
@@ -77,5 +79,4 @@ judgeByTally w q rs =
 -- ---- which pollutants are declared, 1 first: each marked as its column is gone through
 
 unfoldable pub marked : List Pollutant → List Bool → List Bool
-marked [] marks = marks
-marked (p ∷ ps) marks = marked ps (put (p .number) true marks)
+marked ps marks = puts (λ p. true) ps marks

@@ -6,7 +6,7 @@ ghost use Rattle.rules.specs.Series.{pairOf};
 ghost use Rattle.columns.specs.Columns.{upTo};
 ghost use Rattle.decisions.specs.Decisions.{decisionIs, isDeclared, pairIs};
 ghost use Rattle.decisions.specs.Decisions.{noDecisions, decisionsWith, decisionsIs, declaredIs};
-ghost use Rattle.decisions.specs.Column.{ColumnIs, takesLogarithms};
+ghost use Rattle.decisions.specs.Column.{ColumnIs};
 ghost use Rattle.decisions.specs.Ranges.{ColumnRange};
 
 mod count;
@@ -110,10 +110,7 @@ impl Decisions {
     pub fn with(self, number: u32, d: Decision) -> Decisions
         ensures { λ r. ⌜ r ≡ decisionsWith number d self ⌝ }
     {
-        let co = self.co;
-        let hc = self.hc;
-        let nox = self.nox;
-        let pm = self.pm;
+        let Decisions { co, hc, nox, pm } = self;
         Decisions {
             co: chosen(number == 1, d, co),
             hc: chosen(number == 2, d, hc),
@@ -126,28 +123,13 @@ impl Decisions {
     pub fn up_to(self, m: u8) -> Decisions
         ensures { λ r. ⌜ (decisionsIs r ≡ map (upTo m) (decisionsIs self)) × (declaredIs r ≡ declaredIs self) ⌝ }
     {
-        let co = self.co;
-        let hc = self.hc;
-        let nox = self.nox;
-        let pm = self.pm;
+        let Decisions { co, hc, nox, pm } = self;
         Decisions {
             co: co.up_to(m),
             hc: hc.up_to(m),
             nox: nox.up_to(m),
             pm: pm.up_to(m),
         }
-    }
-}
-
-// Plan 3 counts the engines over the limit, and the others take logarithms.
-fn takes_logarithms(plan: Plan) -> bool
-    ensures { λ b. ⌜ b ≡ takesLogarithms plan ⌝ }
-{
-    match plan {
-        Plan::KnownDeviation => true,
-        Plan::UnknownDeviation => true,
-        Plan::Attributes => false,
-        Plan::InService => true,
     }
 }
 
@@ -165,9 +147,10 @@ pub fn column(
     requires { ⌜ ColumnRange (now bytes) start plan number limit deviation rows ⌝ }
     ensures { λ d. ⌜ ColumnIs plan (now (bytes .entry)) number limit deviation rows d ⌝ }
 {
-    if takes_logarithms(plan) {
-        logarithms::column(bytes, start, plan, number, limit, deviation, rows)
-    } else {
+    // Plan 3 counts the engines over the limit, and the others take logarithms.
+    if let Plan::Attributes = plan {
         count::column(bytes, start, number, limit, rows)
+    } else {
+        logarithms::column(bytes, start, plan, number, limit, deviation, rows)
     }
 }

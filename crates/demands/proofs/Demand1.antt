@@ -3,13 +3,7 @@
 -- a ground 0 to 4 and a pair for each pollutant; a judgement only where the check accepts.
 -- Every list of bytes is meant, whatever w and q; the product's are at the end. (That "a refused call writes to no buffer" is in the
 -- contracts of `operations`.)
-use Prim.Native.Nat.{ℕ, _≤_, _<_}
-use native.Mathlib.Nat.{le-trans}
-use native.Mathlib.Omega.{arith}
-use mathlib.Core.Path.{_≡_, refl, sym, ap, _∙_}
-use mathlib.Core.Logic.{_⊎_, inl, inr}
-use mathlib.Core.List.{List, []}
-use lib.ListN.{length}
+use Rattle.arithmetic.proofs.Basics.{ℕ, _≤_, _<_, le-trans, arith, _≡_, refl, sym, ap, _∙_, _⊎_, inl, inr, List, [], length}
 use Rattle.rules.specs.Logarithm.{squarings}
 use Rattle.rules.specs.Sheet.{pollutants, most, records, ofKind}
 use Rattle.rules.specs.Plans.{lastRow}

@@ -1,18 +1,13 @@
 -- Demand 3, "about what judging answers for the bytes of whole sheets, all pollutants together, and not about single rows".
 -- The words are document 01's, defined in rules/specs/Demands. Every list of bytes is meant, whatever w and q; the product's are at the end.
-use Prim.Native.Nat.{ℕ, _≤_}
-use native.Mathlib.Omega.{arith}
-use mathlib.Core.Path.{_≡_}
-use mathlib.Core.Logic.{_⊎_}
-use mathlib.Core.List.{List}
+use Rattle.arithmetic.proofs.Basics.{ℕ, _≤_, arith, _≡_, _⊎_, List}
 use Rattle.rules.specs.Logarithm.{squarings}
 use Rattle.rules.specs.Sheet.{pollutants, records, planNumber}
 use Rattle.rules.specs.Plans.{lastRow}
 use Rattle.rules.specs.Operations.{judge}
 use Rattle.rules.specs.Demands.{Accepted, Decided, PassesAt, FailsAt, PassesBy, FailsBy, Begins, enginesOf, planOfSheet}
 use Rattle.rules.specs.Demands.{Alike, NoneHigher}
-use Rattle.demands.proofs.Kept.{sheet-kept}
-use Rattle.demands.proofs.Ends.{sheet-ends}
+use Rattle.demands.proofs.Ended.{sheet-kept, sheet-ends}
 use Rattle.demands.proofs.Lowering.{sheet-passes, sheet-fails}
 
 module _ (w q : ℕ) where

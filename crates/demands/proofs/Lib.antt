@@ -1,9 +1,6 @@
-pub mod Judged
-pub mod Kept
-pub mod Ends
+pub mod Ended
 pub mod Rows
 pub mod Lower
-pub mod Alike
 pub mod Lowering
 pub mod Demand1
 pub mod Demand3

@@ -1,23 +1,17 @@
 -- Two series of the same pollutants under plan 1 or 3, the measurements of the second nowhere higher:
 -- where the first passes, the second passes no later; where the second fails, the first fails no later.
-use Prim.Native.Nat.{ℕ, zero, suc, _≤_}
-use native.Mathlib.Omega.{arith}
-use mathlib.Core.Path.{_≡_, refl, sym}
-use mathlib.Core.Bool.{Bool, true, false, cond}
-use mathlib.Core.List.{List, [], _∷_, map}
-use lib.Dec.{ltb, eqb}
-use lib.ListN.{take}
-use borrow.Author.Tests.{eq-eqb}
-use Rattle.rules.specs.Tools.{any, all}
+use Rattle.arithmetic.proofs.Basics.{ℕ, zero, suc, _+_, _-_, _≤_, arith, _≡_, refl, sym, _∙_, Bool, true, false, cond, List, [], _∷_, map, ltb, eqb, take}
+use Rattle.arithmetic.proofs.Basics.{eq-eqb, never, or-right, by-test}
 use Rattle.rules.specs.Sheet.{Record, Pollutant, measurement, declares}
-use Rattle.rules.specs.Plans.{Plan, Row, pass, fail, undecided}
+use Rattle.rules.specs.Plans.{Plan, Row}
 use Rattle.rules.specs.Series.{Decision, isOpen, passedAt, failedAt, Standing, Series, ongoing, passed, failed}
 use Rattle.rules.specs.Series.{referred, early, statistics, beforeRow, lookedAt, look, hasFailed, hasPassed, settleBy}
-use Rattle.rules.specs.Series.{settle, rowBy, walk, unlooked, after, Pair, judgement, pairs, answer}
+use Rattle.rules.specs.Series.{settle, rowBy, walk, unlooked, after, Pair, pairs, judgement, answer}
 use Rattle.rules.specs.Demands.{Says, SaysBy}
-use Rattle.arithmetic.proofs.Booleans.{never, or-right, by-test}
-use Rattle.arithmetic.proofs.Pairs.{Pairs, none, more, pairs-swap, pairs-take, pairs-map, any-follows, all-follows}
-use Rattle.demands.proofs.Rows.{RowLe, NotHigher, Lower, Falling, known-falls, attributes-fall, row-lower}
+use Rattle.arithmetic.proofs.Pairs.{Pairs, none, more, pairs-take, pairs-map, any-follows, all-follows}
+use Rattle.answers.proofs.Ranges.{DecidedAt, Made, after-made}
+use Rattle.demands.proofs.Ended.{Ended, passed-ended, failed-ended, after-ended}
+use Rattle.demands.proofs.Rows.{RowLe, best, even, worst, NotHigher, Lower, Falling, known-falls, attributes-fall, row-lower}
 
 -- ---- one pollutant
 
@@ -29,112 +23,55 @@ lower-measurements : {es fs : List Record} (p n : ℕ) → LowerAt p es fs
     → Lower (map (λ r. measurement r p) (take n es)) (map (λ r. measurement r p) (take n fs))
 lower-measurements p n h = pairs-map (λ r. measurement r p) (λ r. measurement r p) (λ r s l. l) (pairs-take n h)
 
--- its decision, as the row that gave it
-abbrev rowOf : Decision → Row
-rowOf isOpen = undecided
-rowOf (passedAt n) = pass
-rowOf (failedAt n) = fail
+-- its decision: a pass, then open, then a fail
+data DecisionLe : (second first : Decision) → Type 0 where
+  passes : {n : ℕ} {d : Decision} → DecisionLe (passedAt n) d
+  opens : DecisionLe isOpen isOpen
+  fails : {n : ℕ} {d : Decision} → DecisionLe d (failedAt n)
 
-abbrev DecisionLe : (second first : Decision) → Type 0
-DecisionLe second first = RowLe (rowOf second) (rowOf first)
+looked-lower : {r₂ r₁ : Row} {d₂ d₁ : Decision} (n : ℕ) → RowLe r₂ r₁ → DecisionLe d₂ d₁ → DecisionLe (lookedAt n r₂ d₂) (lookedAt n r₁ d₁)
+looked-lower n best opens = passes
+looked-lower n even opens = opens
+looked-lower n worst opens = fails
+looked-lower n r passes = passes
+looked-lower n r fails = fails
 
-looked-lower : (n : ℕ) (r₂ r₁ : Row) (d₂ d₁ : Decision) → RowLe r₂ r₁ → DecisionLe d₂ d₁
-    → DecisionLe (lookedAt n r₂ d₂) (lookedAt n r₁ d₁)
-looked-lower n r₂ r₁ (passedAt m) d₁ h k = tt
-looked-lower n pass r₁ isOpen isOpen h k = tt
-looked-lower n undecided pass isOpen isOpen h k = h
-looked-lower n undecided undecided isOpen isOpen h k = tt
-looked-lower n undecided fail isOpen isOpen h k = tt
-looked-lower n fail pass isOpen isOpen h k = h
-looked-lower n fail undecided isOpen isOpen h k = h
-looked-lower n fail fail isOpen isOpen h k = tt
-looked-lower n r₂ r₁ isOpen (passedAt m) h k = absurd k
-looked-lower n pass r₁ isOpen (failedAt m) h k = tt
-looked-lower n undecided r₁ isOpen (failedAt m) h k = tt
-looked-lower n fail r₁ isOpen (failedAt m) h k = tt
-looked-lower n r₂ r₁ (failedAt m) isOpen h k = absurd k
-looked-lower n r₂ r₁ (failedAt m) (passedAt o) h k = absurd k
-looked-lower n r₂ r₁ (failedAt m) (failedAt o) h k = tt
+failed-too : {second first : Decision} → DecisionLe second first → hasFailed second ≡ true → hasFailed first ≡ true
+failed-too passes e = never (sym e)
+failed-too opens e = e
+failed-too fails e = refl
 
-failed-too : (second first : Decision) → DecisionLe second first → hasFailed second ≡ true → hasFailed first ≡ true
-failed-too isOpen first h e = never (sym e)
-failed-too (passedAt m) first h e = never (sym e)
-failed-too (failedAt m) isOpen h e = absurd h
-failed-too (failedAt m) (passedAt o) h e = absurd h
-failed-too (failedAt m) (failedAt o) h e = refl
-
-passed-too : (second first : Decision) → DecisionLe second first → hasPassed first ≡ true → hasPassed second ≡ true
-passed-too second isOpen h e = never (sym e)
-passed-too second (failedAt o) h e = never (sym e)
-passed-too isOpen (passedAt o) h e = absurd h
-passed-too (failedAt m) (passedAt o) h e = absurd h
-passed-too (passedAt m) (passedAt o) h e = refl
+passed-too : {second first : Decision} → DecisionLe second first → hasPassed first ≡ true → hasPassed second ≡ true
+passed-too passes e = refl
+passed-too opens e = e
+passed-too fails e = never (sym e)
 
 -- ---- all of them, with the engines es of the first sheet and fs of the second
 
-pub record StandingLe (es fs : List Record) (second first : Standing) : Type 0 where
-  pub same : second .pollutant ≡ first .pollutant
-  pub lower : LowerAt (first .pollutant .number) es fs
-  pub order : DecisionLe (second .decision) (first .decision)
+record StandingLe (es fs : List Record) (second first : Standing) : Type 0 where
+  same : second .pollutant ≡ first .pollutant
+  lower : LowerAt (first .pollutant .number) es fs
+  order : DecisionLe (second .decision) (first .decision)
 
-module _ (es fs : List Record) where
-  abbrev pub StandingsLe : (second first : List Standing) → Type 0
-  StandingsLe second first = Pairs (StandingLe es fs) second first
+data SeriesLe (es fs : List Record) : (second first : Series) → Type 0 where
+  ahead : {k : ℕ} {ss : List Standing} {s : Series} → SeriesLe es fs (passed k ss) s
+  abreast : {ss ts : List Standing} → Pairs (StandingLe es fs) ss ts → SeriesLe es fs (ongoing ss) (ongoing ts)
+  behind : {k ground : ℕ} {ts : List Standing} {s : Series} → SeriesLe es fs s (failed k ground ts)
 
-  -- after n rows; where a series has ended, its engine tells which was sooner
-  abbrev pub SeriesLe : (n : ℕ) → (second first : Series) → Type 0
-  SeriesLe n (ongoing ss) (ongoing ts) = StandingsLe ss ts
-  SeriesLe n (ongoing ss) (passed m ts) = ⊥
-  SeriesLe n (ongoing ss) (failed m ground ts) = m ≤ n
-  SeriesLe n (ongoing ss) (referred m ts) = ⊥
-  SeriesLe n (passed k ss) (ongoing ts) = k ≤ n
-  SeriesLe n (passed k ss) (passed m ts) = k ≤ m
-  SeriesLe n (passed k ss) (failed m ground ts) = Unit {0}
-  SeriesLe n (passed k ss) (referred m ts) = ⊥
-  SeriesLe n (failed k ground ss) (ongoing ts) = ⊥
-  SeriesLe n (failed k ground ss) (passed m ts) = ⊥
-  SeriesLe n (failed k ground ss) (failed m ground′ ts) = m ≤ k
-  SeriesLe n (failed k ground ss) (referred m ts) = ⊥
-  SeriesLe n (referred k ss) first = ⊥
-
-  settle-lower : {ss ts : List Standing} (n : ℕ) → StandingsLe ss ts → SeriesLe n (settle n ss) (settle n ts)
-  unfolding settle
-  settle-lower {ss} {ts} n h =
-      cases _ _ _ _
-      (any-follows (λ s. hasFailed (s .decision)) (λ t. hasFailed (t .decision))
-      (λ s t l. failed-too (s .decision) (t .decision) (l .order)) h)
-      (all-follows (λ t. hasPassed (t .decision)) (λ s. hasPassed (s .decision))
-      (λ t s l. passed-too (s .decision) (t .decision) (l .order)) (pairs-swap h))
-    where
-      cases : (f₂ f₁ p₂ p₁ : Bool) → (f₂ ≡ true → f₁ ≡ true) → (p₁ ≡ true → p₂ ≡ true)
-          → SeriesLe n (settleBy f₂ p₂ n ss) (settleBy f₁ p₁ n ts)
-      cases true true p₂ p₁ f p = omega arith
-      cases true false p₂ p₁ f p = never (sym (f refl))
-      cases false true true p₁ f p = tt
-      cases false true false p₁ f p = omega arith
-      cases false false true true f p = omega arith
-      cases false false true false f p = omega arith
-      cases false false false true f p = never (sym (p refl))
-      cases false false false false f p = h
-
-  -- the one has ended before this row
-  failed-before : (n m ground : ℕ) (ss ts : List Standing) → m ≤ n → SeriesLe (suc n) (settle (suc n) ss) (failed m ground ts)
-  unfolding settle
-  failed-before n m ground ss ts h = cases (any (λ s. hasFailed (s .decision)) ss) (all (λ s. hasPassed (s .decision)) ss)
-    where
-      cases : (f p : Bool) → SeriesLe (suc n) (settleBy f p (suc n) ss) (failed m ground ts)
-      cases true p = omega arith
-      cases false true = tt
-      cases false false = omega arith
-
-  passed-before : (n m : ℕ) (ss ts : List Standing) → m ≤ n → SeriesLe (suc n) (passed m ss) (settle (suc n) ts)
-  unfolding settle
-  passed-before n m ss ts h = cases (any (λ s. hasFailed (s .decision)) ts) (all (λ s. hasPassed (s .decision)) ts)
-    where
-      cases : (f p : Bool) → SeriesLe (suc n) (passed m ss) (settleBy f p (suc n) ts)
-      cases true p = tt
-      cases false true = omega arith
-      cases false false = omega arith
+settle-lower : {es fs : List Record} {ss ts : List Standing} (n : ℕ) → Pairs (StandingLe es fs) ss ts → SeriesLe es fs (settle n ss) (settle n ts)
+unfolding settle
+settle-lower {es} {fs} {ss} {ts} n h =
+    cases _ _ _ _
+    (any-follows (λ s. hasFailed (s .decision)) (λ t. hasFailed (t .decision)) (λ s t l. failed-too (l .order)) h)
+    (all-follows (λ t. hasPassed (t .decision)) (λ s. hasPassed (s .decision)) (λ s t l. passed-too (l .order)) h)
+  where
+    cases : (f₂ f₁ p₂ p₁ : Bool) → (f₂ ≡ true → f₁ ≡ true) → (p₁ ≡ true → p₂ ≡ true)
+        → SeriesLe es fs (settleBy f₂ p₂ n ss) (settleBy f₁ p₁ n ts)
+    cases f₂ true p₂ p₁ f p = behind
+    cases true false p₂ p₁ f p = never (sym (f refl))
+    cases false false true p₁ f p = ahead
+    cases false false false true f p = never (sym (p refl))
+    cases false false false false f p = abreast h
 
 -- ---- row by row
 
@@ -154,85 +91,93 @@ module _ (q : ℕ) (plan : Plan) (falling : Falling plan) (ps : List Pollutant) 
         same = h .same;
         lower = h .lower;
         order = rw (h .same)
-            (looked-lower n _ _ (s .decision) (t .decision)
-            (row-lower q n (p .limit) (p .deviation) falling (lower-measurements (p .number) n (h .lower))) (h .order));
+            (looked-lower n (row-lower q n (p .limit) (p .deviation) falling (lower-measurements (p .number) n (h .lower))) (h .order));
       }
 
-  -- row n of a series that goes on: too early, or the statistics
-  abbrev rowAt : (n : ℕ) → (isEarly : Bool) → List Record → List Standing → Series
-  rowAt n isEarly engines ss = rowBy (cond isEarly early statistics) plan q n (take n engines) ss
-
-  walk-lower : (n : ℕ) (second first : Series) → SeriesLe es fs n second first
-      → SeriesLe es fs (suc n) (walk plan ps q (suc n) (take (suc n) fs) second) (walk plan ps q (suc n) (take (suc n) es) first)
-  walk-lower n (ongoing ss) (ongoing ts) h =
-      rw (before-plain falling ps (suc n) (take (suc n) fs), before-plain falling ps (suc n) (take (suc n) es))
-      (by-test (λ b. SeriesLe es fs (suc n) (rowAt (suc n) b fs ss) (rowAt (suc n) b es ts))
-      (ltb (suc n) 3) (λ e. h)
-      (λ e. settle-lower es fs (suc n) (pairs-map (look plan q (suc n) (take (suc n) fs)) (look plan q (suc n) (take (suc n) es)) (look-lower (suc n)) h)))
-  walk-lower n (ongoing ss) (passed m ts) h = absurd h
-  walk-lower n (ongoing ss) (failed m ground ts) h =
-      rw (before-plain falling ps (suc n) (take (suc n) fs))
-      (by-test (λ b. SeriesLe es fs (suc n) (rowAt (suc n) b fs ss) (failed m ground ts))
-      (ltb (suc n) 3) (λ e. omega arith) (λ e. failed-before es fs n m ground _ ts h))
-  walk-lower n (ongoing ss) (referred m ts) h = absurd h
-  walk-lower n (passed k ss) (ongoing ts) h =
-      rw (before-plain falling ps (suc n) (take (suc n) es))
-      (by-test (λ b. SeriesLe es fs (suc n) (passed k ss) (rowAt (suc n) b es ts))
-      (ltb (suc n) 3) (λ e. omega arith) (λ e. passed-before es fs n k ss _ h))
-  walk-lower n (passed k ss) (passed m ts) h = h
-  walk-lower n (passed k ss) (failed m ground ts) h = tt
-  walk-lower n (passed k ss) (referred m ts) h = absurd h
-  walk-lower n (failed k ground ss) (ongoing ts) h = absurd h
-  walk-lower n (failed k ground ss) (passed m ts) h = absurd h
-  walk-lower n (failed k ground ss) (failed m ground′ ts) h = h
-  walk-lower n (failed k ground ss) (referred m ts) h = absurd h
-  walk-lower n (referred k ss) first h = absurd h
+  walk-lower : {second first : Series} (n : ℕ) → SeriesLe es fs second first
+      → SeriesLe es fs (walk plan ps q n (take n fs) second) (walk plan ps q n (take n es) first)
+  walk-lower n ahead = ahead
+  walk-lower n behind = behind
+  walk-lower n (abreast {ss} {ts} h) =
+      rw (before-plain falling ps n (take n fs), before-plain falling ps n (take n es))
+      (by-test (λ b. SeriesLe es fs (rowBy (cond b early statistics) plan q n (take n fs) ss) (rowBy (cond b early statistics) plan q n (take n es) ts))
+      (ltb n 3) (λ e. abreast h)
+      (λ e. settle-lower n (pairs-map (look plan q n (take n fs)) (look plan q n (take n es)) (look-lower n) h)))
 
 unlooked-lower : {es fs : List Record} (ps : List Pollutant) → ((p : ℕ) → declares ps p ≡ true → LowerAt p es fs)
-    → StandingsLe es fs (map unlooked ps) (map unlooked ps)
+    → Pairs (StandingLe es fs) (map unlooked ps) (map unlooked ps)
 unfolding unlooked declares
 unlooked-lower [] h = none
 unlooked-lower (c ∷ ps) h =
-    more (record { same = refl; lower = h (c .number) (rw (eq-eqb (c .number) (c .number) refl) refl); order = tt })
+    more (record { same = refl; lower = h (c .number) (rw (eq-eqb (c .number) (c .number) refl) refl); order = opens })
     (unlooked-lower ps (λ p d. h p (or-right (eqb (c .number) p) (declares ps p) d)))
-
-pub after-lower : {plan : Plan} {es fs : List Record} (q : ℕ) → Falling plan → (ps : List Pollutant)
-    → ((p : ℕ) → declares ps p ≡ true → LowerAt p es fs) → (n : ℕ) → SeriesLe es fs n (after plan ps q fs n) (after plan ps q es n)
-unfolding after
-after-lower q falling ps h zero = unlooked-lower ps h
-after-lower {plan} {es} {fs} q falling ps h (suc n) =
-    walk-lower q plan falling ps es fs n (after plan ps q fs n) (after plan ps q es n) (after-lower q falling ps h n)
 
 -- ---- the answers, "by a row or by a stop"
 
-verdict : {v n ground v′ n′ ground′ : ℕ} {ps ps′ : List Pair} → judgement v n ground ps ≡ judgement v′ n′ ground′ ps′ → v ≡ v′
-verdict e = cc
+verdicts : {v n ground v′ n′ ground′ : ℕ} {ps ps′ : List Pair} → judgement v n ground ps ≡ judgement v′ n′ ground′ ps′ → (v ≡ v′ → ⊥) → ⊥
+verdicts e d = d (cc)
 
-engine : {v n ground v′ n′ ground′ : ℕ} {ps ps′ : List Pair} → judgement v n ground ps ≡ judgement v′ n′ ground′ ps′ → n ≡ n′
-engine e = cc
+-- what has ended after m engines has ended by then, and stays
+ended-by : (plan : Plan) (ps : List Pollutant) (q : ℕ) (es : List Record) (m n : ℕ) {s : Series} → m ≤ n → after plan ps q es m ≡ s → Ended s
+    → Made plan q ps es m s × (after plan ps q es n ≡ s)
+ended-by plan ps q es m n l e h =
+    let k : n ≡ n - m + m = omega arith in
+    (rw e at (after-made plan q ps es m), rw k (after-ended plan ps q es (n - m) m (rw e h) ∙ e))
 
-module _ (w : ℕ) (es fs : List Record) (n : ℕ) where
-  pub passes-by : (stop : Bool) (first second : Series) → SeriesLe es fs n second first
-      → (m : ℕ) → Says (answer w stop n first) 1 m → SaysBy (answer w stop n second) 1 m
-  passes-by true (ongoing ts) second h m e = absurd (omega (arith, verdict (e .2)))
-  passes-by false (ongoing ts) second h m e = absurd (omega (arith, verdict (e .2)))
-  passes-by stop (passed o ts) (ongoing ss) h m e = absurd h
-  passes-by stop (passed o ts) (passed k ss) h m e = (k, omega (arith, engine (e .2)), (1, pairs w ss, refl))
-  passes-by stop (passed o ts) (failed k ground ss) h m e = absurd h
-  passes-by stop (passed o ts) (referred k ss) h m e = absurd h
-  passes-by stop (failed o ground ts) second h m e = absurd (omega (arith, verdict (e .2)))
-  passes-by stop (referred o ts) second h m e = absurd (omega (arith, verdict (e .2)))
+-- where the first has passed the second has, and where the second has failed the first has
+passed-second : {es fs : List Record} {s : Series} {n : ℕ} {ts : List Standing} → SeriesLe es fs s (passed n ts)
+    → (k : ℕ) × (ss : List Standing) × (s ≡ passed k ss)
+passed-second (ahead {k} {ss}) = (k, ss, refl)
 
-  pub fails-by : (stop : Bool) (second first : Series) → SeriesLe es fs n second first
-      → (m : ℕ) → Says (answer w stop n second) 2 m → SaysBy (answer w stop n first) 2 m
-  fails-by true (ongoing ss) (ongoing ts) h m e = (n, omega (arith, engine (e .2)), (3, pairs w ts, refl))
-  fails-by true (ongoing ss) (passed o ts) h m e = absurd h
-  fails-by true (ongoing ss) (failed o ground ts) h m e = (o, omega (arith, engine (e .2)), (ground, pairs w ts, refl))
-  fails-by true (ongoing ss) (referred o ts) h m e = absurd h
-  fails-by false (ongoing ss) first h m e = absurd (omega (arith, verdict (e .2)))
-  fails-by stop (passed k ss) first h m e = absurd (omega (arith, verdict (e .2)))
-  fails-by stop (failed k ground ss) (ongoing ts) h m e = absurd h
-  fails-by stop (failed k ground ss) (passed o ts) h m e = absurd h
-  fails-by stop (failed k ground ss) (failed o ground′ ts) h m e = (o, omega (arith, engine (e .2)), (ground′, pairs w ts, refl))
-  fails-by stop (failed k ground ss) (referred o ts) h m e = absurd h
-  fails-by stop (referred k ss) first h m e = absurd h
+failed-first : {es fs : List Record} {t : Series} {n ground : ℕ} {ss : List Standing} → SeriesLe es fs (failed n ground ss) t
+    → (k : ℕ) × (ground′ : ℕ) × (ts : List Standing) × (t ≡ failed k ground′ ts)
+failed-first (behind {k} {ground} {ts}) = (k, ground, ts, refl)
+
+-- where a stop fails the second, it fails the first too, if that has not failed
+stopped-first : {es fs : List Record} {t : Series} {ss : List Standing} (w n m : ℕ) → m ≤ n → DecidedAt m t → SeriesLe es fs (ongoing ss) t
+    → SaysBy (answer w true n t) 2 n
+stopped-first w n m l d (abreast {ss} {ts} h) = (n, omega arith, (3, pairs w ts, refl))
+stopped-first w n m l d (behind {k} {ground} {ts}) = (k, omega (arith, d), (ground, pairs w ts, refl))
+
+module _ {plan : Plan} {es fs : List Record} (w q : ℕ) (falling : Falling plan) (ps : List Pollutant)
+    (lower : (p : ℕ) → declares ps p ≡ true → LowerAt p es fs) where
+  after-lower : (n : ℕ) → SeriesLe es fs (after plan ps q fs n) (after plan ps q es n)
+  unfolding after
+  after-lower zero = abreast (unlooked-lower ps lower)
+  after-lower (suc n) = walk-lower q plan falling ps es fs (suc n) (after-lower n)
+
+  pub passes-by : (stop : Bool) (n m : ℕ) → Says (answer w stop n (after plan ps q es n)) 1 m → SaysBy (answer w stop n (after plan ps q fs n)) 1 m
+  passes-by stop n m s = by stop (after plan ps q es n) refl (s .2)
+    where
+      by : (stop : Bool) (t : Series) → after plan ps q es n ≡ t → answer w stop n t ≡ judgement 1 m (s .0) (s .1)
+          → SaysBy (answer w stop n (after plan ps q fs n)) 1 m
+      by true (ongoing ts) e a = absurd (verdicts a (λ z. omega arith))
+      by false (ongoing ts) e a = absurd (verdicts a (λ z. omega arith))
+      by stop (failed o ground ts) e a = absurd (verdicts a (λ z. omega arith))
+      by stop (referred o ts) e a = absurd (verdicts a (λ z. omega arith))
+      by stop (passed o ts) e a =
+          let made = rw e at (after-made plan q ps es n) in
+          let p = passed-second (rw (made .3) at (after-lower (made .0))) in
+          let b = ended-by plan ps q fs (made .0) n (made .1) (p .2) (passed-ended (p .0) (p .1)) in
+          let i : o ≡ m = cc in
+          rw (b .1) (p .0, omega (arith, b .0 .1, b .0 .2, made .2), (1, pairs w (p .1), refl))
+
+  pub fails-by : (stop : Bool) (n m : ℕ) → Says (answer w stop n (after plan ps q fs n)) 2 m → SaysBy (answer w stop n (after plan ps q es n)) 2 m
+  fails-by stop n m s = by stop (after plan ps q fs n) refl (s .2)
+    where
+      by : (stop : Bool) (t : Series) → after plan ps q fs n ≡ t → answer w stop n t ≡ judgement 2 m (s .0) (s .1)
+          → SaysBy (answer w stop n (after plan ps q es n)) 2 m
+      by true (ongoing ss) e a =
+          let i : n ≡ m = cc in
+          let made = after-made plan q ps es n in
+          let r = stopped-first w n (made .0) (made .1) (made .2) (rw e at (after-lower n)) in
+          (r .0, omega (arith, r .1), r .2)
+      by false (ongoing ts) e a = absurd (verdicts a (λ z. omega arith))
+      by stop (passed o ts) e a = absurd (verdicts a (λ z. omega arith))
+      by stop (referred o ts) e a = absurd (verdicts a (λ z. omega arith))
+      by stop (failed o ground ts) e a =
+          let made = rw e at (after-made plan q ps fs n) in
+          let f = failed-first (rw (made .3) at (after-lower (made .0))) in
+          let b = ended-by plan ps q es (made .0) n (made .1) (f .3) (failed-ended (f .0) (f .1) (f .2)) in
+          let i : o ≡ m = cc in
+          rw (b .1) (f .0, omega (arith, b .0 .1, b .0 .2, made .2), (f .1, pairs w (f .2), refl))

@@ -1,36 +1,22 @@
 -- The rows of plans 1 and 3 fall with each measurement: where none is higher, a row is no worse.
 -- ("Taking plan 2 as falling with each measurement" is one of the readings that tempt and are wrong.)
-use Prim.Native.Nat.{ℕ, _+_, _-_, _*_, _/_, _^_, _≤_}
-use native.Mathlib.Nat.{mul-le-mul-right}
-use native.Mathlib.Omega.{arith}
-use mathlib.Core.Path.{_≡_, refl, sym}
-use mathlib.Core.Bool.{Bool, true, false, not, _&&_, cond}
-use mathlib.Core.List.{List, _∷_}
-use lib.Dec.{leb, ltb, eqb}
-use lib.ListN.{length}
-use lib.IntN.{ℤ, pos, negℤ, _*ℤ_}
-use lib.Signed.{ltZ, leZ}
+use Rattle.arithmetic.proofs.Basics.{ℕ, suc, _+_, _-_, _*_, _/_, _^_, _≤_, mul-le-mul-right, arith, _≡_, refl, sym, Bool, true, false, not, cond, List, _∷_}
+use Rattle.arithmetic.proofs.Basics.{leb, ltb, eqb, length, ℤ, pos, negℤ, _*ℤ_, ltZ, leZ, le-leb, leb-true, never, and-follows, cond-follows}
 use Rattle.rules.specs.Tools.{total}
 use Rattle.rules.specs.Logarithm.{greatest, g, D}
 use Rattle.rules.specs.Plans.{Plan, knownDeviation, attributes, Row, pass, fail, undecided, decide, knownA, knownB, logOfTwo}
 use Rattle.rules.specs.Plans.{knownPasses, knownFails, countOver, attributesPasses, attributesFails, rowPasses}
 use Rattle.rules.specs.Plans.{rowFails, row}
 use Rattle.logarithm.proofs.Rising.{rising}
-use Rattle.arithmetic.proofs.Booleans.{never, and-follows}
-use Rattle.arithmetic.proofs.Order.{ltb-follows, leb-follows}
 use Rattle.arithmetic.proofs.Integers.{Diff, plus, minus, diff-move, diff-of, diff-pos, diff-neg, diff-add, diff-minus}
 use Rattle.arithmetic.proofs.Integers.{diff-mul, lt-fact, lt-test, le-fact, le-test}
 use Rattle.arithmetic.proofs.Pairs.{Pairs, none, more}
 
 -- the order of rows: pass, then undecided, then fail
-abbrev pub RowLe : (second first : Row) → Type 0
-RowLe pass first = Unit {0}
-RowLe undecided pass = ⊥
-RowLe undecided undecided = Unit {0}
-RowLe undecided fail = Unit {0}
-RowLe fail pass = ⊥
-RowLe fail undecided = ⊥
-RowLe fail fail = Unit {0}
+pub data RowLe : (second first : Row) → Type 0 where
+  best : {r : Row} → RowLe pass r
+  even : RowLe undecided undecided
+  worst : {r : Row} → RowLe r fail
 
 -- a measurement and one of the second sheet that is not higher, both in range
 abbrev pub NotHigher : (x y : ℕ) → Type 0
@@ -43,12 +29,12 @@ Lower xs ys = Pairs NotHigher xs ys
 decide-lower : (p₂ p₁ last f₂ f₁ : Bool) → (p₁ ≡ true → p₂ ≡ true) → (f₂ ≡ true → f₁ ≡ true)
     → RowLe (decide p₂ last f₂) (decide p₁ last f₁)
 unfolding decide
-decide-lower true p₁ last f₂ f₁ h k = tt
+decide-lower true p₁ last f₂ f₁ h k = best
 decide-lower false true last f₂ f₁ h k = never (sym (h refl))
-decide-lower false false true f₂ f₁ h k = tt
-decide-lower false false false true f₁ h k = rw (k refl) tt
-decide-lower false false false false true h k = tt
-decide-lower false false false false false h k = tt
+decide-lower false false true f₂ f₁ h k = worst
+decide-lower false false false f₂ true h k = worst
+decide-lower false false false true false h k = never (sym (k refl))
+decide-lower false false false false false h k = even
 
 -- ---- plan 1: D falls
 
@@ -77,6 +63,9 @@ module _ (y z : ℤ) (le : leZ y z ≡ true) (x : ℤ) (k : ℕ) where
 
 -- ---- plan 3: the count falls
 
+leb-follows : (a b c d : ℕ) → (a ≤ b → c ≤ d) → leb a b ≡ true → leb c d ≡ true
+leb-follows a b c d f e = le-leb c d (f (leb-true a b e))
+
 one-more : (b a : Bool) (y x : ℕ) (ys xs : List ℕ) → (b ≡ true → a ≡ true) → length ys ≤ length xs
     → length (cond b (y ∷ ys) ys) ≤ length (cond a (x ∷ xs) xs)
 one-more true a y x ys xs f h = rw (f refl) (omega arith)
@@ -85,27 +74,18 @@ one-more false false y x ys xs f h = h
 
 count-lower : {xs ys : List ℕ} (L : ℕ) → Lower xs ys → countOver L ys ≤ countOver L xs
 count-lower L none = omega arith
-count-lower L (more {x} {y} h r) = one-more (ltb L y) (ltb L x) y x _ _ (ltb-follows L y L x (λ l. omega arith)) (count-lower L r)
+count-lower L (more {x} {y} h r) = one-more (ltb L y) (ltb L x) y x _ _ (leb-follows (suc L) y (suc L) x (λ l. omega arith)) (count-lower L r)
 
 module _ (n c c′ : ℕ) (h : c ≤ c′) where
   attributes-pass : attributesPasses n c′ ≡ true → attributesPasses n c ≡ true
   unfolding attributesPasses
-  attributes-pass = cases (eqb n 19)
-    where
-      cases : (b : Bool) → cond b (leb c′ 8) (not (eqb n 3) && leb c′ ((n - 4) / 2)) ≡ true
-          → cond b (leb c 8) (not (eqb n 3) && leb c ((n - 4) / 2)) ≡ true
-      cases true = leb-follows c′ 8 c 8 (λ l. omega arith)
-      cases false =
-          and-follows (not (eqb n 3)) (leb c′ ((n - 4) / 2)) (not (eqb n 3)) (leb c ((n - 4) / 2)) (λ e. e)
-          (leb-follows c′ ((n - 4) / 2) c ((n - 4) / 2) (λ l. omega arith))
+  attributes-pass =
+      cond-follows (eqb n 19) (leb-follows c′ 8 c 8 (λ l. omega arith))
+      (and-follows (not (eqb n 3)) _ _ _ (λ e. e) (leb-follows c′ ((n - 4) / 2) c ((n - 4) / 2) (λ l. omega arith)))
 
   attributes-fail : attributesFails n c ≡ true → attributesFails n c′ ≡ true
   unfolding attributesFails
-  attributes-fail = cases (eqb n 19)
-    where
-      cases : (b : Bool) → cond b (leb 9 c) (leb (n / 2 + 2) c) ≡ true → cond b (leb 9 c′) (leb (n / 2 + 2) c′) ≡ true
-      cases true = leb-follows 9 c 9 c′ (λ l. omega arith)
-      cases false = leb-follows (n / 2 + 2) c (n / 2 + 2) c′ (λ l. omega arith)
+  attributes-fail = cond-follows (eqb n 19) (leb-follows 9 c 9 c′ (λ l. omega arith)) (leb-follows (n / 2 + 2) c (n / 2 + 2) c′ (λ l. omega arith))
 
 -- ---- the row
 

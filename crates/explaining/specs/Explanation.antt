@@ -34,19 +34,15 @@ name Stop engine = ascii "stop"
 name (Other kind) engine = ascii "kind " ++ decimal kind
 name End engine = ascii "end"
 
--- record k, "counted from 0"
-unfoldable pub place : (b : List ℕ) (k : ℕ) → List ℕ
-place b k = ascii "record " ++ (decimal k ++ (ascii " (" ++ (name (stepAt b k) (enginesIn b (suc k)) ++ ascii "): ")))
+-- record k, "counted from 0"; "for 1, record 0": a refused length names no record
+unfoldable pub place : (b : List ℕ) (number k : ℕ) → List ℕ
+place b number k = cond (eqb number 1) [] (ascii "record " ++ (decimal k ++ (ascii " (" ++ (name (stepAt b k) (enginesIn b (suc k)) ++ ascii "): "))))
 
 -- ---- the line
 
--- "for 1, record 0": it names no record
-unfoldable pub refused : (b : List ℕ) (number k : ℕ) → List ℕ
-refused b number k = ascii "verdict: " ++ (cond (eqb number 1) [] (place b k) ++ (sentence number ++ (10 ∷ [])))
-
 abbrev pub explainedBy : List ℕ → rules.Check → List ℕ
 explainedBy b rules.accepted = []
-explainedBy b (rules.refused number k) = refused b number k
+explainedBy b (rules.refused number k) = ascii "verdict: " ++ (place b number k ++ (sentence number ++ (10 ∷ [])))
 
 -- the line for the bytes of a sheet; none for one that is accepted
 unfoldable pub explained : List ℕ → List ℕ

@@ -1,5 +1,5 @@
 -- What each refusal of a sheet means, in words for people. `conformity_refusal_text` of include/conformity.h says the same, and a test compares the two.
-use Prim.Native.Nat.{ℕ}
+use Prim.Native.Nat.{ℕ, zero, suc}
 use Prim.Native.String.{String}
 use mathlib.Core.Bool.{cond}
 use mathlib.Core.List.{List, [], _∷_}
@@ -34,3 +34,9 @@ meaning (k means t ∷ others) n = cond (eqb n k) (ascii t) (meaning others n)
 
 unfoldable pub sentence : (number : ℕ) → List ℕ
 sentence n = meaning sentences n
+
+-- line k of a text, counted from 0, up to its newline
+unfoldable pub lineOf : List ℕ → (k : ℕ) → List ℕ
+lineOf [] k = []
+lineOf (b ∷ bs) zero = cond (eqb b 10) [] (b ∷ lineOf bs zero)
+lineOf (b ∷ bs) (suc k) = lineOf bs (cond (eqb b 10) k (suc k))

@@ -1,9 +1,9 @@
 // What the program `verdict` says to people of a refused sheet: which record it is, and what the refusal means.
 ghost use mathlib.Core.Path.{_≡_};
-ghost use Prim.Native.Nat.{suc, _≤_};
+ghost use Prim.Native.Nat.{suc};
 ghost use Rattle.lines.specs.Writing.{withBytes, Adds, Written};
-ghost use Rattle.explaining.specs.Sentences.{sentence};
-ghost use Rattle.explaining.specs.Explanation.{isEngine, enginesIn, name, place, refused, explained};
+ghost use Rattle.explaining.specs.Sentences.{lineOf, sentence};
+ghost use Rattle.explaining.specs.Explanation.{enginesIn, name, place, explained};
 use checking::Checked;
 use checking::Refusal;
 use checking::check;
@@ -13,26 +13,6 @@ use reading::turn_at;
 
 // The refusal of a sheet's length, which names no record.
 const LENGTH: u8 = 1;
-
-fn is_engine(step: Step) -> u32
-    ensures { λ n. ⌜ (n ≡ isEngine step) × (n ≤ 1) ⌝ }
-{
-    match step {
-        Step::Pollutant {
-            number: _,
-            plan: _,
-            limit: _,
-            deviation: _,
-        } => 0,
-        Step::Engine {
-            cause: _,
-            measurements: _,
-        } => 1,
-        Step::Stop => 0,
-        Step::Other { kind: _ } => 0,
-        Step::End => 0,
-    }
-}
 
 // How many of the records up to this one, it among them, are engines: the sheet is walked from its start.
 fn engines_through(sheet: &[u8], record: u8) -> u32
@@ -44,8 +24,11 @@ fn engines_through(sheet: &[u8], record: u8) -> u32
     while k <= last {
         let turn = turn_at(sheet, k);
         let step = turn.step;
-        engines += is_engine(step);
         k += 1;
+        match step {
+            Step::Engine { .. } => engines += 1,
+            _ => {}
+        }
     }
     engines
 }
@@ -55,25 +38,22 @@ fn with_name(lines: Lines, step: Step, engine: u32) -> Lines
     ensures { λ l. ⌜ Adds lines l (name step engine) 20 ⌝ }
 {
     match step {
-        Step::Pollutant {
-            number,
-            plan: _,
-            limit: _,
-            deviation: _,
-        } => lines.with_word(b"pollutant ").with_number(number),
-        Step::Engine {
-            cause: _,
-            measurements: _,
-        } => lines.with_word(b"engine ").with_number(engine),
+        Step::Pollutant { number, .. } => lines.with_word(b"pollutant ").with_number(number),
+        Step::Engine { .. } => lines.with_word(b"engine ").with_number(engine),
         Step::Stop => lines.with_word(b"stop"),
         Step::Other { kind } => lines.with_word(b"kind ").with_number(kind),
         Step::End => lines.with_word(b"end"),
     }
 }
 
-fn with_place(lines: Lines, sheet: &[u8], record: u8) -> Lines
-    ensures { λ l. ⌜ Adds lines l (place (now (sheet .entry)) «record») 42 ⌝ }
+// Which record is refused; a refused length names none.
+fn with_place(lines: Lines, sheet: &[u8], refusal: Refusal) -> Lines
+    ensures { λ l. ⌜ Adds lines l (place (now (sheet .entry)) (refusal .number) (refusal .place)) 42 ⌝ }
 {
+    if refusal.number == LENGTH {
+        return lines;
+    }
+    let record = refusal.place;
     let turn = turn_at(sheet, record as usize);
     let step = turn.step;
     let engine = engines_through(sheet, record);
@@ -84,69 +64,49 @@ fn with_place(lines: Lines, sheet: &[u8], record: u8) -> Lines
     with_name(lines, step, engine).with_word(b"): ")
 }
 
-// What the refusal of that number means. Those of a sheet are 1 to 12.
-fn with_sentence(lines: Lines, number: u8) -> Lines
-    ensures { λ l. ⌜ l ≡ withBytes lines (sentence number) ⌝ }
+// With a line of a text, without its newline. The lines are counted from 0, and each ends with a newline.
+fn with_line(lines: Lines, text: &[u8], number: u8) -> Lines
+    ensures { λ l. ⌜ l ≡ withBytes lines (lineOf (now (text .entry)) number) ⌝ }
 {
-    if number == 1 {
-        return lines.with_word(
-            b"the sheet is empty, not a whole number of records, or longer than 740 bytes",
-        );
-    }
-    if number == 2 {
-        return lines.with_word(b"the record's kind is not 1, 2 or 3");
-    }
-    if number == 3 {
-        return lines.with_word(
-            b"the first record is no pollutant, a pollutant follows another kind, or a record follows the stop",
-        );
-    }
-    if number == 4 {
-        return lines.with_word(b"the pollutant number is not 1 to 4, or not above the one before");
-    }
-    if number == 5 {
-        return lines.with_word(b"the plan is not 1 to 4, or unlike the first pollutant's");
-    }
-    if number == 6 {
-        return lines.with_word(b"the limit is not 1 to 9999999");
-    }
-    if number == 7 {
-        return lines.with_word(
-            b"the deviation is not 1 to 4000000 in plan 1, or not 0 in another plan",
-        );
-    }
-    if number == 8 {
-        return lines.with_word(
-            b"a measurement is not 1 to 9999999, or one of an undeclared pollutant is not 0",
-        );
-    }
-    if number == 9 {
-        return lines.with_word(
-            b"the cause is not 1 to 65534 for a gross emitter in plan 4, or not 0 for any other engine",
-        );
-    }
-    if number == 10 {
-        return lines.with_word(b"there are more engines than the plan's last row");
-    }
-    if number == 11 {
-        return lines.with_word(b"plan 4 knows no stop by the manufacturer");
-    }
-    if number == 12 {
-        return lines.with_word(b"a byte that must be zero is not");
+    let mut lines = lines;
+    let mut before = number;
+    let mut i: usize = 0;
+    while i < text.len() {
+        let byte = text[i];
+        i += 1;
+        if before == 0 {
+            if byte == b'\n' {
+                return lines;
+            }
+            lines = lines.with_byte(byte);
+        } else if byte == b'\n' {
+            before -= 1;
+        }
     }
     lines
 }
 
-fn refusal_line(sheet: &[u8], refusal: Refusal) -> Lines
-    ensures { λ l. ⌜ Written l (refused (now (sheet .entry)) (refusal .number) (refusal .place)) ⌝ }
+// What the refusal of that number means, a line each. Those of a sheet are 1 to 12, and there is no 0.
+fn with_sentence(lines: Lines, number: u8) -> Lines
+    ensures { λ l. ⌜ Adds lines l (sentence number) 100 ⌝ }
 {
-    let number = refusal.number;
-    let lines = Lines::nothing().with_word(b"verdict: ");
-    if number == LENGTH {
-        return with_sentence(lines, number).with_byte(b'\n');
-    }
-    let lines = with_place(lines, sheet, refusal.place);
-    with_sentence(lines, number).with_byte(b'\n')
+    with_line(
+        lines,
+        b"\n\
+        the sheet is empty, not a whole number of records, or longer than 740 bytes\n\
+        the record's kind is not 1, 2 or 3\n\
+        the first record is no pollutant, a pollutant follows another kind, or a record follows the stop\n\
+        the pollutant number is not 1 to 4, or not above the one before\n\
+        the plan is not 1 to 4, or unlike the first pollutant's\n\
+        the limit is not 1 to 9999999\n\
+        the deviation is not 1 to 4000000 in plan 1, or not 0 in another plan\n\
+        a measurement is not 1 to 9999999, or one of an undeclared pollutant is not 0\n\
+        the cause is not 1 to 65534 for a gross emitter in plan 4, or not 0 for any other engine\n\
+        there are more engines than the plan's last row\n\
+        plan 4 knows no stop by the manufacturer\n\
+        a byte that must be zero is not\n",
+        number,
+    )
 }
 
 // The line for the bytes of a sheet; none for one that is accepted.
@@ -157,5 +117,7 @@ pub fn explain(sheet: &[u8]) -> Lines
     let Checked::Refused(refusal) = checked else {
         return Lines::nothing();
     };
-    refusal_line(sheet, refusal)
+    let lines = Lines::nothing().with_word(b"verdict: ");
+    let lines = with_place(lines, sheet, refusal);
+    with_sentence(lines, refusal.number).with_byte(b'\n')
 }

@@ -1,97 +1,26 @@
--- What the program keeps of the declared pollutants, each by its number, is what the list of them says.
-use Prim.Native.Nat.{ℕ, zero, suc, _*_, _≤_, _<_}
-use native.Mathlib.Omega.{arith}
-use mathlib.Core.Path.{_≡_, refl, sym, _∙_}
-use mathlib.Core.Bool.{Bool, true, false, not, _||_, cond}
-use mathlib.Core.List.{List, [], _∷_, _++_}
-use lib.Dec.{eqb, ltb}
-use borrow.Author.Tests.{eqb-true, eq-eqb, ne-eqb}
-use Rattle.rules.specs.Tools.{any, within}
-use Rattle.rules.specs.Logarithm.{greatest}
+-- What the limits by number, 0 where a pollutant is not declared, say of the declared pollutants.
+use Rattle.arithmetic.proofs.Basics.{ℕ, zero, suc, _+_, _*_, _/_, _≤_, _<_, arith, _≡_, refl, sym, _∙_, Bool, true, false, not, _||_, cond, List, [], _∷_, _++_}
+use Rattle.arithmetic.proofs.Basics.{eqb, ltb, eqb-true, eq-eqb, ne-eqb, or-same, or-swap, or-assoc, by-test, ltb-same, any-update}
+use Rattle.rules.specs.Tools.{any}
 use Rattle.rules.specs.Sheet.{Record, Pollutant, pollutants, measurement, numbers, declares, gross}
-use Rattle.rules.specs.Refusals.{newest, badValue, badMeasurement}
-use Rattle.accepted.specs.ByNumber.{limitOf}
-use Rattle.accepted.proofs.ByNumber.{newest-snoc, in-numbers}
-use Rattle.arithmetic.proofs.Booleans.{or-same, or-true, or-false}
-use Rattle.arithmetic.proofs.Lists.{any-snoc, any-update}
-use Rattle.faults.specs.declared.Quantities.{Quantities}
-use Rattle.faults.specs.State.{quantity, quantitiesWith}
-use Rattle.faults.specs.Faults.{badValueBy, badMeasurementBy, exceeds, grossBy}
+use Rattle.rules.specs.Refusals.{badValue, badMeasurement}
+use Rattle.accepted.proofs.ByNumber.{limitOf, InOrder, in-numbers}
+use Rattle.record.specs.declared.Quantities.{Quantities}
+use Rattle.record.specs.Quantities.{quantity, quantitiesWith}
+use Rattle.faults.specs.Faults.{badMeasurementBy, exceeds, grossBy}
 
--- the last number and the limits by number say of the declared pollutants what is asked of them
-pub record Declared (ps : List Pollutant) (last : ℕ) (limits : Quantities) : Type 0 where
-  pub newestIs : newest ps ≡ last
-  pub declaring : (p : ℕ) → declares ps p ≡ not (eqb (quantity limits p) 0)
-  pub grossIs : (r : Record) → gross ps r ≡ grossBy limits r
-  pub limitIs : (p : ℕ) → quantity limits p ≡ limitOf p ps
-  -- a later pollutant is not yet declared
-  pub later : (p : ℕ) → last < p → quantity limits p ≡ 0
-
--- ---- no pollutant yet
-
-abbrev zeros : Quantities
-zeros = record { co = 0; hc = 0; nox = 0; pm = 0 }
+-- ---- limits by number
 
 cond-same : (b : Bool) (x : ℕ) → cond b x x ≡ x
 cond-same true x = refl
 cond-same false x = refl
 
-zero-quantity : (p : ℕ) → quantity zeros p ≡ 0
+pub zero-quantity : (p : ℕ) → quantity (record { co = 0; hc = 0; nox = 0; pm = 0 }) p ≡ 0
 unfolding quantity
 zero-quantity p = simp cond-same
 
-pub none : Declared [] 0 zeros
-unfolding declares gross grossBy exceeds
-none =
-    record {
-      newestIs = refl;
-      declaring = λ p. rw (zero-quantity p) refl;
-      grossIs = λ r. refl;
-      limitIs = zero-quantity;
-      later = λ p h. zero-quantity p;
-    }
-
--- a test of the four pollutants
-each : (a b c d : Bool) → a || (b || (c || (d || false))) ≡ a || b || c || d
-each true b c d = refl
-each false true c d = refl
-each false false true d = refl
-each false false false d = or-same d
-
--- ---- refusal 8
-
-cond-not : (b x y : Bool) → cond (not b) x y ≡ cond b y x
-cond-not true x y = refl
-cond-not false x y = refl
-
-pub measurement-agrees : {ps : List Pollutant} {last : ℕ} {q : Quantities} → Declared ps last q → (r : Record)
-    → badMeasurementBy q r ≡ badMeasurement pollutants ps r
-unfolding badMeasurement badMeasurementBy badValueBy quantity
-measurement-agrees {ps} {q = q} h r =
-    sym
-    (each (badValue ps r 1) (badValue ps r 2) (badValue ps r 3) (badValue ps r 4)
-    ∙ rw (value 1 (q .co) (h .declaring 1), value 2 (q .hc) (h .declaring 2), value 3 (q .nox) (h .declaring 3), value 4 (q .pm) (h .declaring 4)) refl)
-  where
-    value : (p limit : ℕ) → declares ps p ≡ not (eqb limit 0) → badValue ps r p ≡ badValueBy limit (measurement r p)
-    value p limit e = rw e (cond-not (eqb limit 0) (not (within 1 greatest (measurement r p))) (not (eqb (measurement r p) 0)))
-
--- ---- one pollutant more
-
-limit-snoc : (p : ℕ) (ps : List Pollutant) (c : Pollutant) → declares ps (c .number) ≡ false
-    → limitOf p (ps ++ (c ∷ [])) ≡ cond (eqb (c .number) p) (c .limit) (limitOf p ps)
-unfolding declares
-limit-snoc p [] c e = refl
-limit-snoc p (a ∷ ps) c e =
-    let f = or-false (eqb (a .number) (c .number)) (declares ps (c .number)) e in
-    rw (limit-snoc p ps c (f .1)) (cases (eqb (c .number) p) refl (f .0))
-  where
-    cases : (b : Bool) → eqb (c .number) p ≡ b → eqb (a .number) (c .number) ≡ false
-        → cond (eqb (a .number) p) (a .limit) (cond b (c .limit) (limitOf p ps)) ≡ cond b (c .limit) (cond (eqb (a .number) p) (a .limit) (limitOf p ps))
-    cases true q f = rw (← eqb-true (c .number) p q, f) refl
-    cases false q f = refl
-
-module _ (n x : ℕ) (l : 1 ≤ n) (u : n ≤ 4) (q : Quantities) where
-  quantity-with : (p : ℕ) → quantity (quantitiesWith q n x) p ≡ cond (eqb n p) x (quantity q p)
+module _ (n x : ℕ) (l : 1 ≤ n) (u : n ≤ pollutants) (q : Quantities) where
+  pub quantity-with : (p : ℕ) → quantity (quantitiesWith q n x) p ≡ cond (eqb n p) x (quantity q p)
   unfolding quantity quantitiesWith
   quantity-with zero = rw (ne-eqb n 0 (λ z. omega arith)) refl
   quantity-with (suc zero) = refl
@@ -100,74 +29,68 @@ module _ (n x : ℕ) (l : 1 ≤ n) (u : n ≤ 4) (q : Quantities) where
   quantity-with (suc (suc (suc (suc zero)))) = refl
   quantity-with (suc (suc (suc (suc (suc p))))) =
       let m = suc (suc (suc (suc (suc p)))) in
-      let other : (k : ℕ) → k ≤ 4 → eqb m k ≡ false = λ k b. ne-eqb m k (λ z. omega arith) in
+      let other : (k : ℕ) → k ≤ pollutants → eqb m k ≡ false = λ k b. ne-eqb m k (λ z. omega arith) in
       rw (other 1 (omega arith), other 2 (omega arith), other 3 (omega arith), other 4 (omega arith), ne-eqb n m (λ z. omega arith)) refl
 
-abbrev over : Quantities → Record → (p : ℕ) → Bool
-over q r p = exceeds (quantity q p) (measurement r p)
+-- ---- pollutants whose numbers rise
 
-gross-each : (q : Quantities) (r : Record) → any (over q r) (numbers pollutants) ≡ grossBy q r
-unfolding grossBy quantity
-gross-each q r = each (over q r 1) (over q r 2) (over q r 3) (over q r 4)
+-- one more behind the others
+pub order-last : (m : ℕ) (ps : List Pollutant) (c : Pollutant) → InOrder pollutants m (ps ++ (c ∷ [])) → (m < c .number) × (c .number ≤ pollutants)
+order-last m [] c h = (h .0, h .1)
+order-last m (a ∷ ps) c h = let k = order-last (a .number) ps c (h .5) in (omega arith, k .1)
 
-module _ {ps : List Pollutant} {last : ℕ} {q : Quantities} (h : Declared ps last q) (c : Pollutant)
-    (rises : newest ps < c .number) (u : c .number ≤ pollutants) (m : 1 ≤ c .limit) where
-  l : 1 ≤ c .number
-  l = omega arith
+pub limit-snoc : (m : ℕ) (ps : List Pollutant) (c : Pollutant) → InOrder pollutants m (ps ++ (c ∷ [])) → (p : ℕ)
+    → limitOf p (ps ++ (c ∷ [])) ≡ cond (eqb (c .number) p) (c .limit) (limitOf p ps)
+limit-snoc m [] c h p = refl
+limit-snoc m (a ∷ ps) c h p =
+    rw (limit-snoc (a .number) ps c (h .5) p)
+    (by-test
+    (λ t. cond (eqb (a .number) p) (a .limit) (cond t (c .limit) (limitOf p ps)) ≡ cond t (c .limit) (cond (eqb (a .number) p) (a .limit) (limitOf p ps)))
+    (eqb (c .number) p)
+    (λ e. let k = eqb-true (c .number) p e in rw (ne-eqb (a .number) p (λ z. omega (arith, order-last (a .number) ps c (h .5)))) refl)
+    (λ e. refl))
 
-  above : last < c .number
-  above = let e = h .newestIs in omega arith
+-- a number that is not above m is none of theirs
+unlisted : (m : ℕ) (ps : List Pollutant) → InOrder pollutants m ps → (p : ℕ) → p ≤ m → limitOf p ps ≡ 0
+unlisted m [] h p l = refl
+unlisted m (c ∷ ps) h p l = rw (ne-eqb (c .number) p (λ z. omega arith)) (unlisted (c .number) ps (h .5) p (omega arith))
 
-  limited : eqb (c .limit) 0 ≡ false
-  limited = ne-eqb (c .limit) 0 (λ z. omega arith)
+declares-limit : (m : ℕ) (ps : List Pollutant) → InOrder pollutants m ps → (p : ℕ) → declares ps p ≡ not (eqb (limitOf p ps) 0)
+unfolding declares
+declares-limit m [] h p = refl
+declares-limit m (c ∷ ps) h p =
+    by-test (λ t. t || declares ps p ≡ not (eqb (cond t (c .limit) (limitOf p ps)) 0)) (eqb (c .number) p)
+    (λ e. rw (ne-eqb (c .limit) 0 (λ z. omega arith)) refl) (λ e. declares-limit (c .number) ps (h .5) p)
 
-  undeclared : declares ps (c .number) ≡ false
-  undeclared = h .declaring (c .number) ∙ rw (h .later (c .number) above) refl
+-- x is above L and half of L, rounded down
+half-more : (L x : ℕ) → ltb (L + L / 2) x ≡ ltb (3 * L) (2 * x)
+half-more L x = ltb-same (L + L / 2) x (3 * L) (2 * x) (omega arith)
 
-  abbrev limitsNow : Quantities
-  limitsNow = quantitiesWith q (c .number) (c .limit)
+abbrev over : List Pollutant → Record → (p : ℕ) → Bool
+over ps r p = exceeds (limitOf p ps) (measurement r p)
 
-  limit-now : (p : ℕ) → quantity limitsNow p ≡ cond (eqb (c .number) p) (c .limit) (quantity q p)
-  limit-now p = quantity-with (c .number) (c .limit) l u q p
+gross-limit : (m : ℕ) (ps : List Pollutant) → InOrder pollutants m ps → (r : Record) → gross ps r ≡ any (over ps r) (numbers pollutants)
+unfolding gross
+gross-limit m [] h r = refl
+gross-limit m (c ∷ ps) h r =
+    sym
+    (any-update (over ps r) (over (c ∷ ps) r) (c .number) (rw (unlisted (c .number) ps (h .5) (c .number) (omega arith)) refl)
+    (λ p e. rw (ne-eqb (c .number) p (λ z. e (sym z))) refl) (numbers pollutants) (in-numbers pollutants (c .number) (omega arith) (h .1))
+    ∙ or-swap (any (over ps r) (numbers pollutants)) (over (c ∷ ps) r (c .number))
+    ∙ rw (eq-eqb (c .number) (c .number) refl, ne-eqb (c .limit) 0 (λ z. omega arith), half-more (c .limit) _, ← gross-limit (c .number) ps (h .5) r) refl)
 
-  declaring-now : (p : ℕ) → declares (ps ++ (c ∷ [])) p ≡ not (eqb (quantity limitsNow p) 0)
-  unfolding declares
-  declaring-now p = rw (limit-now p) (any-snoc (λ a. eqb (a .number) p) ps c ∙ cases (eqb (c .number) p))
-    where
-      cases : (b : Bool) → declares ps p || b ≡ not (eqb (cond b (c .limit) (quantity q p)) 0)
-      cases true = rw limited (or-true (declares ps p))
-      cases false = or-same (declares ps p) ∙ h .declaring p
+-- ---- the program's tests of the four pollutants
 
-  module _ (r : Record) where
-    over-here : over limitsNow r (c .number) ≡ ltb (3 * c .limit) (2 * measurement r (c .number))
-    unfolding exceeds
-    over-here = rw (limit-now (c .number), eq-eqb (c .number) (c .number) refl, limited) refl
+each : (a b c d : Bool) → a || (b || (c || (d || false))) ≡ a || b || c || d
+each a b c d = simp (or-same, or-assoc)
 
-    over-before : over q r (c .number) ≡ false
-    unfolding exceeds
-    over-before = rw (h .later (c .number) above) refl
+module _ (ps : List Pollutant) (q : Quantities) (h : InOrder pollutants 0 ps) (l : (p : ℕ) → quantity q p ≡ limitOf p ps) (r : Record) where
+  pub measurement-agrees : badMeasurementBy q r ≡ badMeasurement pollutants ps r
+  unfolding badMeasurement badMeasurementBy quantity
+  measurement-agrees =
+      let d = declares-limit 0 ps h in
+      sym (each (badValue ps r 1) (badValue ps r 2) (badValue ps r 3) (badValue ps r 4) ∙ rw (d 1, d 2, d 3, d 4, l 1, l 2, l 3, l 4) refl)
 
-    over-other : (p : ℕ) → (p ≡ c .number → ⊥) → over limitsNow r p ≡ over q r p
-    over-other p e = rw (limit-now p, ne-eqb (c .number) p (λ z. e (sym z))) refl
-
-    gross-more : gross (ps ++ (c ∷ [])) r ≡ any (over q r) (numbers pollutants) || over limitsNow r (c .number)
-    unfolding gross
-    gross-more =
-        any-snoc (λ a. ltb (3 * a .limit) (2 * measurement r (a .number))) ps c
-        ∙ (rw (h .grossIs r, ← gross-each q r, ← over-here) refl)
-
-    gross-now : gross (ps ++ (c ∷ [])) r ≡ grossBy limitsNow r
-    gross-now =
-        let among = in-numbers pollutants (c .number) l u in
-        gross-more
-        ∙ (sym (any-update (over q r) (over limitsNow r) (c .number) over-before over-other (numbers pollutants) among) ∙ gross-each limitsNow r)
-
-  pub one-more : Declared (ps ++ (c ∷ [])) (c .number) limitsNow
-  one-more =
-      record {
-        newestIs = newest-snoc ps c;
-        declaring = declaring-now;
-        grossIs = gross-now;
-        limitIs = λ p. limit-now p ∙ (rw (h .limitIs p) (sym (limit-snoc p ps c undeclared)));
-        later = λ p g. rw (limit-now p, ne-eqb (c .number) p (λ z. omega arith)) (h .later p (omega arith));
-      }
+  pub gross-agrees : grossBy q r ≡ gross ps r
+  unfolding grossBy quantity
+  gross-agrees = sym (gross-limit 0 ps h r ∙ each (over ps r 1) (over ps r 2) (over ps r 3) (over ps r 4) ∙ rw (l 1, l 2, l 3, l 4) refl)

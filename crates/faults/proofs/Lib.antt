@@ -1,4 +1,4 @@
+pub mod Chains
 pub mod Unused
-pub mod Limits
 pub mod Declared
 pub mod Agreement

@@ -1,26 +1,16 @@
 // What the records before one say, and the refusal of a record after them.
 ghost use mathlib.Core.Path.{_≡_};
-ghost use mathlib.Core.Bool.{cond};
-ghost use Rattle.faults.specs.State.{nothing, quantitiesWith, withPollutant, withEngine, withStop, summaryWith};
-ghost use Rattle.faults.specs.State.{Room};
+ghost use Rattle.faults.specs.State.{nothing, summaryWith, Room};
 use plan::Plan;
 use record::ENGINE;
 use record::POLLUTANT;
-use record::STOP;
+use record::Quantities;
 use record::kind_of;
 use record::limit_of;
 use record::number_of;
 use record::plan_of;
 
 pub mod fault;
-
-// A number for each pollutant, "carbon monoxide, hydrocarbons, nitrogen oxides, particulates".
-pub struct Quantities {
-    pub co: u32,
-    pub hc: u32,
-    pub nox: u32,
-    pub pm: u32,
-}
 
 // What is kept of the records read so far: all that the refusal of the next one looks back at, and what judging starts from.
 pub struct Summary {
@@ -38,26 +28,6 @@ pub struct Summary {
     pub head: u32,
     // How many engines there are.
     pub engines: u32,
-}
-
-fn chosen(test: bool, a: u32, b: u32) -> u32
-    ensures { λ n. ⌜ n ≡ cond test a b ⌝ }
-{
-    if test { a } else { b }
-}
-
-impl Quantities {
-    // These, but x for pollutant p.
-    fn with(self, p: u32, x: u32) -> Quantities
-        ensures { λ q. ⌜ q ≡ quantitiesWith self p x ⌝ }
-    {
-        Quantities {
-            co: chosen(p == 1, x, self.co),
-            hc: chosen(p == 2, x, self.hc),
-            nox: chosen(p == 3, x, self.nox),
-            pm: chosen(p == 4, x, self.pm),
-        }
-    }
 }
 
 impl Summary {
@@ -82,53 +52,26 @@ impl Summary {
         }
     }
 
-    fn with_pollutant(self, r: &[u8]) -> Summary
-        requires { ⌜ Room self ⌝ }
-        ensures { λ t. ⌜ t ≡ withPollutant self (now (r .entry)) ⌝ }
-    {
-        let plan = plan_of(r);
-        let number = number_of(r);
-        let limits = self.limits;
-        Summary {
-            kind: POLLUTANT,
-            plan,
-            last_row: Plan::of(plan).last_row(),
-            number,
-            limits: limits.with(number, limit_of(r)),
-            head: self.head + 1,
-            engines: self.engines,
-        }
-    }
-
-    fn with_engine(mut self) -> Summary
-        requires { ⌜ Room self ⌝ }
-        ensures { λ t. ⌜ t ≡ withEngine self ⌝ }
-    {
-        self.kind = ENGINE;
-        self.engines = self.engines + 1;
-        self
-    }
-
-    fn with_stop(mut self) -> Summary
-        ensures { λ t. ⌜ t ≡ withStop self ⌝ }
-    {
-        self.kind = STOP;
-        self
-    }
-
     // What is said once the record r, which has no fault, is read too.
     // For `checking` alone, whose loop reads at most 37 records after at most 37, so that no count overflows: so it may require.
-    pub fn with(self, r: &[u8]) -> Summary
+    pub fn with(mut self, r: &[u8]) -> Summary
         requires { ⌜ Room self ⌝ }
         ensures { λ t. ⌜ t ≡ summaryWith self (now (r .entry)) ⌝ }
     {
         let kind = kind_of(r);
-        if kind == POLLUTANT {
-            self.with_pollutant(r)
-        } else if kind == ENGINE {
-            self.with_engine()
-        } else {
-            self.with_stop()
+        self.kind = kind;
+        if kind == ENGINE {
+            self.engines = self.engines + 1;
+        } else if kind == POLLUTANT {
+            let plan = plan_of(r);
+            let number = number_of(r);
+            let limits = self.limits;
+            self.plan = plan;
+            self.last_row = Plan::of(plan).last_row();
+            self.number = number;
+            self.limits = limits.with(number, limit_of(r));
+            self.head = self.head + 1;
         }
+        self
     }
 }

@@ -1,14 +1,7 @@
 -- A number in decimal: the digits of all but its last, and its last.
-use Prim.Native.Nat.{ℕ, zero, suc, _+_, _/_, _%_, _^_, _≤_, _<_}
-use native.Mathlib.Omega.{arith}
-use native.Mathlib.Nat.{pow-suc}
-use mathlib.Core.Path.{_≡_, refl, sym, ap, _∙_}
-use mathlib.Core.Logic.{⊎-elim}
-use mathlib.Core.List.{List, [], _∷_, _++_}
-use lib.ListN.{length, length-append}
-use borrow.Author.Tests.{lt-ltb, le-ltb}
+use Rattle.arithmetic.proofs.Basics.{ℕ, zero, suc, _+_, _/_, _%_, _^_, _≤_, _<_, arith, pow-suc, _≡_, refl, sym, ap, _∙_, ⊎-elim, List, [], _∷_, _++_, length}
+use Rattle.arithmetic.proofs.Basics.{length-append, lt-ltb, le-ltb, lt-or-ge}
 use Rattle.rules.specs.Printed.{lastDigits, decimal}
-use Rattle.arithmetic.proofs.Order.{lt-or-ge}
 
 last : (most n : ℕ) → n < 10 → lastDigits (suc most) n ≡ (48 + n) ∷ []
 unfolding lastDigits

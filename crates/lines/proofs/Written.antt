@@ -1,12 +1,6 @@
 -- Bytes that are written one after another stand in the lines one after another, where there is room for them.
-use Prim.Native.Nat.{ℕ, _+_, _≤_, _<_}
-use native.Mathlib.Numerals.{add-one}
-use native.Mathlib.Omega.{arith}
-use mathlib.Core.Path.{_≡_, refl, sym, ap, _∙_}
-use mathlib.Core.List.{List, [], _∷_, _++_, append-nil, append-assoc}
-use lib.ListN.{length, set, length-set, length-append}
-use lib.Seq.{take-suc-set, length-take-le}
-use borrow.Author.Tests.{lt-ltb}
+use Rattle.arithmetic.proofs.Basics.{ℕ, _+_, _≤_, _<_, add-one, arith, _≡_, refl, sym, ap, _∙_, List, [], _∷_, _++_, append-nil, append-assoc, length, set}
+use Rattle.arithmetic.proofs.Basics.{length-set, length-append, take-suc-set, length-take-le, lt-ltb}
 use Rattle.rules.specs.Printed.{line}
 use Rattle.lines.specs.declared.Lines.{Lines}
 use Rattle.lines.specs.Writing.{room, nothing, withByte, withBytes, held, Adds, Kept, Written}

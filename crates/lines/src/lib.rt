@@ -10,6 +10,7 @@ pub struct Lines {
 }
 
 impl Lines {
+    // How many bytes there is room for.
     pub const ROOM: usize = 256;
 
     // No bytes yet.

@@ -1,18 +1,9 @@
 -- Append: a record is judged by what the sheet before it says, and written behind it.
-use Prim.Native.Nat.{ℕ, _+_, _-_, _≤_}
-use native.Mathlib.Nat.{le-of-eq}
-use native.Mathlib.Omega.{arith}
-use mathlib.Core.Path.{_≡_, refl, sym, _∙_}
-use mathlib.Core.Bool.{Bool, true, false, not, cond}
-use mathlib.Core.List.{List, _++_, append-nil}
-use lib.Dec.{ltb, eqb}
-use lib.ListN.{length, take, drop, length-drop, drop-of-length-le}
-use lib.Seq.{take-all, take-length, drop-drop}
-use borrow.Author.Tests.{ltb-false, eqb-true, not-false}
+use Rattle.arithmetic.proofs.Basics.{ℕ, _+_, _-_, _≤_, _<_, le-of-eq, arith, _≡_, refl, sym, Bool, true, false, cond, List, _++_, append-nil, eqb, length, take}
+use Rattle.arithmetic.proofs.Basics.{drop, length-drop, drop-of-length-le, take-all, take-length, drop-drop, eq-eqb, ne-eqb, lt-ltb, le-ltb}
 use Rattle.rules.specs.Sheet.{pollutants, records, recordSize}
 use Rattle.rules.specs.Refusals.{Check, accepted, refused, check}
-use Rattle.rules.specs.Operations.{andThen, noRoom, joined, append, appended}
-use Rattle.arithmetic.proofs.Booleans.{or-false}
+use Rattle.rules.specs.Operations.{andThen, onSuccess, noRoom, joined, append, appended}
 use Rattle.faults.specs.State.{nothing}
 use Rattle.checking.specs.declared.Checked.{Checked}
 use Rattle.checking.specs.declared.Checked.the-variants as checked
@@ -45,31 +36,38 @@ joined-is b r = rw (← check-is (b ++ r), ← so-far-is b) (cases (soFar b) (ch
     cases (checked.Accepted s) d = refl
     cases (checked.Refused f) d = refl
 
--- ---- the buffer
+-- ---- "A refused call writes to no buffer."
 
-pub record-good : (r : List ℕ) {x : Bool} → x ≡ not (eqb (length r) recordSize) → x ≡ false → length r ≡ recordSize
-record-good r e f = eqb-true (length r) recordSize (not-false (eqb (length r) recordSize) (sym e ∙ f))
+pub kept : {x a : Check} {n p : ℕ} → x ≡ refused n p → a ≡ refused n p → (changed held : List ℕ) → (a ≡ x) × (held ≡ onSuccess x changed held)
+kept e q changed held = (cc, rw e refl)
 
-pub room-good : (b : List ℕ) (u : ℕ) {x : Bool} → x ≡ noRoom pollutants b u → x ≡ false → u + recordSize ≤ length b
-unfolding noRoom
-room-good b u e f =
-    let p = or-false (ltb (length (drop u b)) recordSize) (ltb (length b) u) (sym e ∙ f) in
-    let q = ltb-false (length (drop u b)) recordSize (p .0) in
-    let h = ltb-false (length b) u (p .1) in
-    omega (arith, length-drop u b)
+-- ---- the answer, in document 01's order
 
-module _ (b : List ℕ) (u : ℕ) (r : List ℕ) {a : Check} (e : a ≡ append pollutants b u r) where
-  pub kept : (n p : ℕ) → a ≡ refused n p → (a ≡ append pollutants b u r) × (b ≡ appended pollutants b u r)
-  unfolding appended
-  kept n p q = (e, rw (sym e ∙ q) refl)
+module _ (b : List ℕ) (u : ℕ) (r : List ℕ) where
+  pub bad-record : (length r ≡ recordSize → ⊥) → append pollutants b u r ≡ refused 14 0
+  unfolding append
+  bad-record h = rw (ne-eqb (length r) recordSize h) refl
+
+  module _ (l : length r ≡ recordSize) where
+    pub no-room : length b < u + recordSize → append pollutants b u r ≡ refused 13 0
+    unfolding append noRoom
+    no-room h = rw (eq-eqb (length r) recordSize l, lt-ltb (length (drop u b)) recordSize (omega (arith, length-drop u b))) refl
+
+    pub checked-joined : u + recordSize ≤ length b → {c : Checked} → c ≡ joinedOf (take u b) r → append pollutants b u r ≡ checkIs c
+    unfolding append noRoom
+    checked-joined h e =
+        rw (eq-eqb (length r) recordSize l, le-ltb (length (drop u b)) recordSize (omega (arith, length-drop u b)), le-ltb (length b) u (omega arith), e)
+        (sym (joined-is (take u b) r))
+
+  -- ---- the buffer
 
   -- the record is copied into the part from u on
-  pub wrote : a ≡ accepted → length r ≡ recordSize → {y : List ℕ}
+  pub wrote : append pollutants b u r ≡ accepted → length r ≡ recordSize → {y : List ℕ}
       → y ≡ take (length r) r ++ drop (length r) (take (length b - u) (drop u b))
       → (accepted ≡ append pollutants b u r) × (take u b ++ (y ++ drop (length b - u) (drop u b)) ≡ appended pollutants b u r)
   unfolding appended
-  wrote q l p =
+  wrote e l p =
       let d : length (drop u b) ≤ length b - u = le-of-eq (length-drop u b) in (
-        sym q ∙ e,
-        rw (sym e ∙ q, p, take-all (length b - u) (drop u b) d, drop-of-length-le (drop u b) d, append-nil, take-length r, l, drop-drop recordSize u b) refl,
+        sym e,
+        rw (e, p, take-all (length b - u) (drop u b) d, drop-of-length-le (drop u b) d, append-nil, take-length r, l, drop-drop recordSize u b) refl,
       )

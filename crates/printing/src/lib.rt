@@ -5,11 +5,11 @@ ghost use Prim.Native.Nat.{_+_};
 ghost use lib.ListN.{length};
 ghost use Rattle.rules.specs.Logarithm.{squarings};
 ghost use Rattle.rules.specs.Sheet.{pollutants};
-ghost use Rattle.rules.specs.Printed.{decimal, line, refusedWord, printed};
+ghost use Rattle.rules.specs.Printed.{decimal, line, printed};
 ghost use Rattle.lines.specs.Writing.{room, nothing, Adds, Written};
 ghost use Rattle.printing.specs.Judgements.{firstLine, decisionLine, judgementLines};
-use checking::Refusal;
 use decisions::Decision;
+use decisions::Decisions;
 use lines::Lines;
 use series::Judged;
 use series::Judgement;
@@ -33,9 +33,11 @@ fn line_of(word: &[u8], a: u8, b: u8) -> Lines
 fn first_line(numbers: Numbers) -> Lines
     ensures { λ l. ⌜ Adds nothing l (firstLine numbers) 17 ⌝ }
 {
-    let verdict = numbers.verdict;
-    let engine = numbers.engine;
-    let ground = numbers.ground;
+    let Numbers {
+        verdict,
+        engine,
+        ground,
+    } = numbers;
     match verdict {
         0 => line_of(b"another", engine, ground),
         1 => line_of(b"pass", engine, ground),
@@ -46,7 +48,7 @@ fn first_line(numbers: Numbers) -> Lines
 
 // A line of a pollutant: "number, open/pass/fail, engine".
 fn with_decision(lines: Lines, p: u8, word: &[u8], engine: u8) -> Lines
-    ensures { λ l. ⌜ Adds lines l (line (decimal p ∷ now (word .entry) ∷ decimal engine ∷ [])) (length (decimal p) + length (now (word .entry)) + 6) ⌝ }
+    ensures { λ l. ⌜ Adds lines l (line (decimal p ∷ now (word .entry) ∷ decimal engine ∷ [])) (length (now (word .entry)) + 9) ⌝ }
 {
     lines
         .with_number(p as u32)
@@ -59,7 +61,7 @@ fn with_decision(lines: Lines, p: u8, word: &[u8], engine: u8) -> Lines
 
 // "a line for each declared pollutant"
 fn with_pollutant(lines: Lines, p: u8, decision: Decision) -> Lines
-    ensures { λ l. ⌜ Adds lines l (decisionLine p decision) (length (decimal p) + 10) ⌝ }
+    ensures { λ l. ⌜ Adds lines l (decisionLine p decision) 13 ⌝ }
 {
     match decision {
         Decision::Undeclared => lines,
@@ -69,22 +71,12 @@ fn with_pollutant(lines: Lines, p: u8, decision: Decision) -> Lines
     }
 }
 
-// "A refusal prints `refused`, number, record."
-fn refusal_lines(r: Refusal) -> Lines
-    ensures { λ l. ⌜ Adds nothing l (line (refusedWord ∷ decimal (r .number) ∷ decimal (r .place) ∷ [])) room ⌝ }
-{
-    line_of(b"refused", r.number, r.place)
-}
-
+// Line 1, and a line for each of the four.
 fn judgement_lines(judgement: Judgement) -> Lines
     ensures { λ l. ⌜ Adds nothing l (judgementLines judgement) room ⌝ }
 {
-    let verdict = judgement.verdict;
-    let decisions = judgement.decisions;
-    let co = decisions.co;
-    let hc = decisions.hc;
-    let nox = decisions.nox;
-    let pm = decisions.pm;
+    let Judgement { verdict, decisions } = judgement;
+    let Decisions { co, hc, nox, pm } = decisions;
     let lines = first_line(verdict.numbers());
     let lines = with_pollutant(lines, 1, co);
     let lines = with_pollutant(lines, 2, hc);
@@ -96,9 +88,9 @@ fn judgement_lines(judgement: Judgement) -> Lines
 pub fn print(sheet: &[u8]) -> Lines
     ensures { λ l. ⌜ Written l (printed pollutants squarings (now (sheet .entry))) ⌝ }
 {
-    let judged = judge(sheet);
-    match judged {
+    match judge(sheet) {
         Judged::Judgement(judgement) => judgement_lines(judgement),
-        Judged::Refused(refusal) => refusal_lines(refusal),
+        // "A refusal prints `refused`, number, record."
+        Judged::Refused(refusal) => line_of(b"refused", refusal.number, refusal.place),
     }
 }

@@ -7,8 +7,7 @@ ghost use Rattle.rules.specs.Refusals as refusals;
 ghost use Rattle.rules.specs.Operations as rules;
 ghost use Rattle.rules.specs.Printed.{printed};
 ghost use Rattle.reading.specs.Steps.{stepAt, leftAt};
-ghost use Rattle.probe.specs.Placed.{placed};
-ghost use Rattle.probe.specs.Walked.{reached, numbersOf};
+ghost use Rattle.probe.specs.Entries.{reached, numbersOf, placed};
 use reading::Step;
 use reading::turn_at;
 
@@ -51,14 +50,12 @@ fn walked(sheet: &[u8], k: usize) -> usize
     ensures { λ n. ⌜ n ≡ reached (now (sheet .entry)) k ⌝ }
 {
     let mut at: usize = 0;
-    let mut i: usize = 0;
-    while i < k {
+    while at < k {
         let turn = turn_at(sheet, at);
         if turn.left == 0 {
             return at;
         }
         at = turn.next;
-        i += 1;
     }
     at
 }

@@ -5,23 +5,18 @@ use mathlib.Core.List.{List, []}
 use lib.Dec.{ltb, eqb}
 use lib.ListN.{length, getD}
 use denote.Ref.{RefT, now}
-use Rattle.rules.specs.Sheet.{Record, pollutants, records, kind, number, plan, limit, deviation, cause, measurement}
+use Rattle.rules.specs.Sheet.{Record, pollutants, records, pollutantKind, engineKind, stopKind, kind, number, plan, limit, deviation, cause, measurement}
 use Rattle.reading.specs.declared.SheetReader.{SheetReader}
 use Rattle.reading.specs.declared.Step.{Step}
 use Rattle.reading.specs.declared.Step.the-variants.{Pollutant, Engine, Stop, Other, End}
 use Rattle.reading.specs.declared.Turn.{Turn}
 
--- "byte 1 pollutant number ..; byte 2 plan ..; bytes 4-7 limit L; bytes 8-11 deviation t"
-unfoldable pub pollutantStep : Record → Step
-pollutantStep r = Pollutant (number r) (plan r) (limit r) (deviation r)
-
--- "bytes 2-3 cause; bytes 4-19 four u32 measurements, pollutant 1 first"
-unfoldable pub engineStep : Record → Step
-engineStep r = Engine (cause r) (record { co = measurement r 1; hc = measurement r 2; nox = measurement r 3; pm = measurement r 4 })
-
--- "Byte 0 is the kind"
+-- "Byte 0 is the kind". Of a pollutant "byte 1 pollutant number ..; byte 2 plan ..; bytes 4-7 limit L; bytes 8-11 deviation t", of an engine "bytes 2-3 cause; bytes 4-19 four u32 measurements, pollutant 1 first"
 unfoldable pub stepOf : Record → Step
-stepOf r = cond (eqb (kind r) 1) (pollutantStep r) (cond (eqb (kind r) 2) (engineStep r) (cond (eqb (kind r) 3) Stop (Other (kind r))))
+stepOf r =
+    cond (eqb (kind r) pollutantKind) (Pollutant (number r) (plan r) (limit r) (deviation r))
+    (cond (eqb (kind r) engineKind) (Engine (cause r) (record { co = measurement r 1; hc = measurement r 2; nox = measurement r 3; pm = measurement r 4 }))
+    (cond (eqb (kind r) stopKind) Stop (Other (kind r))))
 
 -- record k of the whole records of the bytes b, "counted from 0"
 unfoldable pub stepAt : (b : List ℕ) (k : ℕ) → Step

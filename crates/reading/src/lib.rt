@@ -1,11 +1,10 @@
 // "A sheet under reading is the lent bytes and the number of the next record": a struct over the slice, and few functions over it.
 // Each takes the struct apart and leaves the work to a function on the slice and the number.
 ghost use mathlib.Core.Path.{_≡_};
-ghost use Rattle.reading.specs.Steps.{pollutantStep, engineStep, stepOf, stepAt, leftAt, nextAt};
-ghost use Rattle.reading.specs.Steps.{reader, advanced, turnAt};
-use faults::Quantities;
+ghost use Rattle.reading.specs.Steps.{stepAt, leftAt, nextAt, reader, advanced, turnAt};
 use record::ENGINE;
 use record::POLLUTANT;
+use record::Quantities;
 use record::STOP;
 use record::cause_of;
 use record::deviation_of;
@@ -35,56 +34,39 @@ pub enum Step {
     End,
 }
 
-fn pollutant_step(r: &[u8]) -> Step
-    ensures { λ s. ⌜ s ≡ pollutantStep (now (r .entry)) ⌝ }
-{
-    Step::Pollutant {
-        number: number_of(r),
-        plan: plan_of(r),
-        limit: limit_of(r),
-        deviation: deviation_of(r),
-    }
-}
-
-fn engine_step(r: &[u8]) -> Step
-    ensures { λ s. ⌜ s ≡ engineStep (now (r .entry)) ⌝ }
-{
-    let measurements = Quantities {
-        co: measurement_of(r, 1),
-        hc: measurement_of(r, 2),
-        nox: measurement_of(r, 3),
-        pm: measurement_of(r, 4),
-    };
-    Step::Engine {
-        cause: cause_of(r),
-        measurements,
-    }
-}
-
-fn step_of(r: &[u8]) -> Step
-    ensures { λ s. ⌜ s ≡ stepOf (now (r .entry)) ⌝ }
-{
-    let kind = kind_of(r);
-    if kind == POLLUTANT {
-        pollutant_step(r)
-    } else if kind == ENGINE {
-        engine_step(r)
-    } else if kind == STOP {
-        Step::Stop
-    } else {
-        Step::Other { kind }
-    }
-}
-
 // What stands at a number. A record that is not whole is the end.
 pub fn step_at(bytes: &[u8], at: usize) -> Step
     ensures { λ s. ⌜ s ≡ stepAt (now (bytes .entry)) at ⌝ }
 {
-    if at < bytes.len() / record::SIZE {
-        step_of(record_at(bytes, at))
-    } else {
-        Step::End
+    if bytes.len() / record::SIZE <= at {
+        return Step::End;
     }
+    let r = record_at(bytes, at);
+    let kind = kind_of(r);
+    if kind == POLLUTANT {
+        return Step::Pollutant {
+            number: number_of(r),
+            plan: plan_of(r),
+            limit: limit_of(r),
+            deviation: deviation_of(r),
+        };
+    }
+    if kind == ENGINE {
+        let measurements = Quantities {
+            co: measurement_of(r, 1),
+            hc: measurement_of(r, 2),
+            nox: measurement_of(r, 3),
+            pm: measurement_of(r, 4),
+        };
+        return Step::Engine {
+            cause: cause_of(r),
+            measurements,
+        };
+    }
+    if kind == STOP {
+        return Step::Stop;
+    }
+    Step::Other { kind }
 }
 
 // How many whole records are left from the number on.

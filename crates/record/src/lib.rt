@@ -1,10 +1,12 @@
 // The fields of a record, by document 01's "The sheet". A byte past the record's end counts as 0.
 ghost use mathlib.Core.Path.{_≡_};
+ghost use mathlib.Core.Bool.{cond};
 ghost use Prim.Native.Nat.{_+_, _*_, _<_};
 ghost use lib.ListN.{length, take, drop};
-ghost use Rattle.rules.specs.Tools.{within, byte, two, four};
+ghost use Rattle.rules.specs.Tools.{byte, two, four};
 ghost use Rattle.rules.specs.Sheet.{kind, number, plan, limit, deviation, cause, measurement, recordSize};
 ghost use Rattle.record.specs.Ranges.{RecordRange, ByteRange, PlaceRange};
+ghost use Rattle.record.specs.Quantities.{quantitiesWith};
 
 // The bytes of a record and of the longest sheet: "Records of 20 bytes, no header; at most 37."
 pub const SIZE: usize = 20;
@@ -17,6 +19,34 @@ pub const POLLUTANT: u32 = 1;
 pub const ENGINE: u32 = 2;
 
 pub const STOP: u32 = 3;
+
+// A number for each pollutant, "carbon monoxide, hydrocarbons, nitrogen oxides, particulates".
+pub struct Quantities {
+    pub co: u32,
+    pub hc: u32,
+    pub nox: u32,
+    pub pm: u32,
+}
+
+fn chosen(test: bool, a: u32, b: u32) -> u32
+    ensures { λ n. ⌜ n ≡ cond test a b ⌝ }
+{
+    if test { a } else { b }
+}
+
+impl Quantities {
+    // These, but x for pollutant p.
+    pub fn with(self, p: u32, x: u32) -> Quantities
+        ensures { λ q. ⌜ q ≡ quantitiesWith self p x ⌝ }
+    {
+        Quantities {
+            co: chosen(p == 1, x, self.co),
+            hc: chosen(p == 2, x, self.hc),
+            nox: chosen(p == 3, x, self.nox),
+            pm: chosen(p == 4, x, self.pm),
+        }
+    }
+}
 
 // Record k of a sheet. For `checking`, `causes`, `decisions`, `series` and `reading`, which ask for records below the sheet's end: so it may require.
 pub fn record_at(sheet: &[u8], k: usize) -> &[u8]
@@ -117,11 +147,4 @@ pub fn measurement_of(r: &[u8], p: u32) -> u32
     ensures { λ n. ⌜ n ≡ measurement (now (r .entry)) p ⌝ }
 {
     u32_at(r, 4 * (p as usize))
-}
-
-// Whether x is lo to hi, both counted in.
-pub fn is_within(lo: u32, hi: u32, x: u32) -> bool
-    ensures { λ b. ⌜ b ≡ within lo hi x ⌝ }
-{
-    (lo <= x) & (x <= hi)
 }

@@ -1,24 +1,9 @@
 -- Plan 1's row, by its tests on integers, as the program makes it by tests on naturals, for every number q of squarings.
-use mathlib.Core.Path.{_≡_, refl, ap}
-use mathlib.Core.Bool.{Bool, true, false, cond}
-use Prim.Native.Nat.{ℕ, _+_, _*_, _^_}
-use native.Mathlib.Omega.{arith}
-use lib.Dec.{ltb, eqb}
-use lib.IntN.{ℤ, pos, negℤ, _+ℤ_, _-ℤ_, _*ℤ_}
-use borrow.Author.Tests.{eq-eqb, ne-eqb, le-leb, lt-leb, ltb-true, ltb-false}
-use Rattle.arithmetic.proofs.Integers.{Diff, diff-pos, diff-negpos, diff-neg, diff-add, diff-minus, diff-mul, diff-move, diff-ltb}
-use Rattle.arithmetic.proofs.Booleans.{by-test}
+use Rattle.arithmetic.proofs.Basics.{_≡_, refl, ap, Bool, true, false, cond, ℕ, _+_, _*_, _^_, _≤_, _<_, arith, leb, eqb, ℤ, pos, negℤ, _+ℤ_, _-ℤ_, _*ℤ_}
+use Rattle.arithmetic.proofs.Basics.{eq-eqb, ne-eqb}
+use mir.Val.{boolByte}
+use Rattle.arithmetic.proofs.Integers.{Diff, diff-pos, diff-negpos, diff-neg, diff-add, diff-minus, diff-mul, diff-move, lt-test, lt-not}
 use Rattle.rules.specs.Plans.{Row, pass, fail, undecided, decide, knownPasses, knownFails, logOfTwo}
-
--- in the last row, and before it
-by-pass : (passes fails : Bool) → cond passes pass fail ≡ decide passes true fails
-unfolding decide
-by-pass true fails = refl
-by-pass false fails = refl
-
-by-both : (passes fails : Bool) → cond passes pass (cond fails fail undecided) ≡ decide passes false fails
-unfolding decide
-by-both passes fails = refl
 
 -- A and B of the rows before the last, as differences
 A-is : (n : ℕ) → Diff (pos 3327 -ℤ pos 66 *ℤ (pos n -ℤ pos 3)) 3525 (66 * n)
@@ -27,6 +12,10 @@ A-is n = diff-move (diff-minus (diff-pos 3327) (diff-mul (diff-pos 66) (diff-min
 B-is : (n k : ℕ) → Diff (negℤ (pos 4724) -ℤ pos 66 *ℤ (pos n -ℤ pos 3) +ℤ pos k) k (4526 + 66 * n)
 B-is n k =
     diff-move (diff-add (diff-minus (diff-negpos 4724) (diff-mul (diff-pos 66) (diff-minus (diff-pos n) (diff-pos 3)))) (diff-pos k)) (omega arith)
+
+one-more : (t : Bool) → cond t (pos 1) (pos 0) ≡ pos (boolByte t)
+one-more true = refl
+one-more false = refl
 
 module _ (q n added level t : ℕ) where
   -- D, and the program's three numbers
@@ -50,33 +39,29 @@ module _ (q n added level t : ℕ) where
   right : {z : ℤ} {p m : ℕ} → Diff z p m → Diff (z *ℤ pos t *ℤ pos (2 ^ q)) (p * unit) (m * unit)
   right {z} {p} {m} h = diff-move (diff-mul (diff-mul h (diff-pos t)) (diff-pos (2 ^ q))) (omega arith)
 
-  -- −2112 is −66 × 32
-  passes-last : n ≡ 32 → ltb above line ≡ knownPasses q n D t
-  unfolding knownPasses
-  passes-last e =
-      rw (eq-eqb n 32 e) (diff-ltb (right (diff-negpos 2112)) left above line (omega (arith, ap (λ (x : ℕ). x * unit) e)))
-
-  passes-before : (n ≡ 32 → ⊥) → ltb (above + 3525 * unit) line ≡ knownPasses q n D t
-  unfolding knownPasses
-  passes-before e = rw (ne-eqb n 32 e) (diff-ltb (right (A-is n)) left (above + 3525 * unit) line (omega arith))
-
-  fails-before : (n ≡ 32 → ⊥) → ltb (line + cond (ltb n 10) (4526 * unit) (4525 * unit)) above ≡ knownFails q n D t
-  unfolding knownFails
-  fails-before e =
-      by-test (λ (b : Bool). ltb (line + cond b (4526 * unit) (4525 * unit)) above ≡ knownFails q n D t) (ltb n 10) to-9 from-10
-    where
-      to-9 : ltb n 10 ≡ true → ltb (line + 4526 * unit) above ≡ knownFails q n D t
-      to-9 h = rw (ne-eqb n 32 e, lt-leb 10 n (ltb-true n 10 h)) (diff-ltb left (right (B-is n 0)) (line + 4526 * unit) above (omega arith))
-
-      from-10 : ltb n 10 ≡ false → ltb (line + 4525 * unit) above ≡ knownFails q n D t
-      from-10 h = rw (ne-eqb n 32 e, le-leb 10 n (ltb-false n 10 h)) (diff-ltb left (right (B-is n 1)) (line + 4525 * unit) above (omega arith))
-
   abbrev decided : Row
   decided = decide (knownPasses q n D t) (eqb n 32) (knownFails q n D t)
 
-  pub last-row-is : n ≡ 32 → cond (ltb above line) pass fail ≡ decided
-  last-row-is e = rw (passes-last e, eq-eqb n 32 e) (by-pass (knownPasses q n D t) (knownFails q n D t))
+  -- −2112 is −66 × 32
+  module _ (e : n ≡ 32) where
+    pub last-passes : above < line → pass ≡ decided
+    unfolding decide knownPasses
+    last-passes h = rw (eq-eqb n 32 e, lt-test (right (diff-negpos 2112)) left (omega (arith, ap (λ (x : ℕ). x * unit) e)))
 
-  pub row-before-is : (n ≡ 32 → ⊥)
-      → cond (ltb (above + 3525 * unit) line) pass (cond (ltb (line + cond (ltb n 10) (4526 * unit) (4525 * unit)) above) fail undecided) ≡ decided
-  row-before-is e = rw (passes-before e, fails-before e, ne-eqb n 32 e) (by-both (knownPasses q n D t) (knownFails q n D t))
+    pub last-fails : line ≤ above → fail ≡ decided
+    unfolding decide knownPasses
+    last-fails h = rw (eq-eqb n 32 e, lt-not (right (diff-negpos 2112)) left (omega (arith, ap (λ (x : ℕ). x * unit) e)))
+
+  module _ (e : n ≡ 32 → ⊥) where
+    pub passes : above + 3525 * unit < line → pass ≡ decided
+    unfolding decide knownPasses
+    passes h = rw (ne-eqb n 32 e, lt-test (right (A-is n)) left (omega arith))
+
+    module _ (h : line ≤ above + 3525 * unit) where
+      pub fails : line + 4526 * unit < above + boolByte (leb 10 n) * unit → fail ≡ decided
+      unfolding decide knownPasses knownFails
+      fails k = rw (ne-eqb n 32 e, lt-not (right (A-is n)) left (omega arith), one-more (leb 10 n), lt-test left (right (B-is n (boolByte (leb 10 n)))) (omega arith))
+
+      pub opens : above + boolByte (leb 10 n) * unit ≤ line + 4526 * unit → undecided ≡ decided
+      unfolding decide knownPasses knownFails
+      opens k = rw (ne-eqb n 32 e, lt-not (right (A-is n)) left (omega arith), one-more (leb 10 n), lt-not left (right (B-is n (boolByte (leb 10 n)))) (omega arith))

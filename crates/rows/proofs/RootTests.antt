@@ -1,17 +1,7 @@
 -- The tests of plans 2 and 4 on integers, as the tests on naturals that the program makes.
-use mathlib.Core.Path.{_≡_, ap, ap₂, _∙_}
-use mathlib.Core.Bool.{Bool, true, false, not}
-use Prim.Native.Nat.{ℕ, _+_, _*_, _≤_}
-use native.Mathlib.Omega.{arith}
-use lib.Dec.{ltb, leb}
-use lib.IntN.{ℤ, pos, negℤ, _-ℤ_, _*ℤ_}
-use Rattle.arithmetic.proofs.Order.{not-ltb}
+use Rattle.arithmetic.proofs.Basics.{_≡_, _∙_, true, false, not, ℕ, _+_, _-_, _*_, _≤_, _<_, arith, ltb, leb, ℤ, pos, negℤ, _-ℤ_, _*ℤ_, not-ltb}
 use Rattle.arithmetic.proofs.Integers.{Diff, diff-pos, diff-negpos, diff-minus, diff-mul, diff-move, diff-leb, lt-test, lt-not, le-test, le-not}
 use Rattle.rules.specs.Plans.{atMostRoot, atLeastRoot, rootPasses, rootFails}
-
--- the comparison x of two numbers of two words, u and v, of which the products p and q are known
-pub not-less : {x : Bool} {u v p q : ℕ} → x ≡ ltb u v → u ≡ p → v ≡ q → not x ≡ leb q p
-not-less {x} {u} {v} e f g = ap not e ∙ not-ltb u v ∙ ap₂ leb g f
 
 -- a number x of the table without its sign, D without its sign, W
 module _ (x k w : ℕ) where
@@ -43,19 +33,6 @@ module _ (x k w : ℕ) where
     unfolding rootPasses atMostRoot
     negative-high h h′ l = rw (lt-test (diff-negpos x) (diff-pos 0) (omega arith), le-not (P-high l) (diff-pos 0) (omega arith))
 
-    -- "for A ≥ 0, P ≤ 0 or P² ≤ A²W"
-    pub most-low : taken ≡ added + k → rootPasses (pos x) D (pos w) ≡ true
-    unfolding rootPasses atMostRoot
-    most-low l = rw (lt-not (diff-pos x) (diff-pos 0) (omega arith), le-test (P-low l) (diff-pos 0) (omega arith))
-
-    pub most-high : 1 ≤ k → added ≡ taken + k → not (ltb (x * x * w) (P * P)) ≡ rootPasses (pos x) D (pos w)
-    unfolding rootPasses atMostRoot
-    most-high h l =
-        let e = P-high l in
-        not-ltb (x * x * w) (P * P)
-        ∙ rw (lt-not (diff-pos x) (diff-pos 0) (omega arith), le-not e (diff-pos 0) (omega arith))
-        (diff-leb (diff-mul e e) (line (diff-move (diff-mul (diff-pos x) (diff-pos x)) (omega arith))) (P * P) (x * x * w) (omega arith))
-
     -- "P ≥ B√W means P ≥ 0 and P² ≥ B²W"
     pub least-high : added ≡ taken + k → leb (x * x * w) (P * P) ≡ rootFails (pos x) D (pos w)
     unfolding rootFails atLeastRoot
@@ -67,3 +44,19 @@ module _ (x k w : ℕ) where
     pub least-low : 1 ≤ k → taken ≡ added + k → rootFails (pos x) D (pos w) ≡ false
     unfolding rootFails atLeastRoot
     least-low h l = rw (le-not (diff-pos 0) (P-low l) (omega arith))
+
+-- "for A ≥ 0, P ≤ 0 or P² ≤ A²W"
+module _ (x w added taken : ℕ) where
+  pub most-low : added ≤ taken → rootPasses (pos x) (pos added -ℤ pos taken) (pos w) ≡ true
+  unfolding rootPasses atMostRoot
+  most-low l = rw (lt-not (diff-pos x) (diff-pos 0) (omega arith), le-test (P-low x (taken - added) w added taken (omega arith)) (diff-pos 0) (omega arith))
+
+  pub most-high : taken < added
+      → let P = 100000 * (added - taken) in not (ltb (x * x * w) (P * P)) ≡ rootPasses (pos x) (pos added -ℤ pos taken) (pos w)
+  unfolding rootPasses atMostRoot
+  most-high l =
+      let k : ℕ = added - taken in
+      let e = P-high x k w added taken (omega arith) in
+      not-ltb (x * x * w) (P x k w * P x k w)
+      ∙ rw (lt-not (diff-pos x) (diff-pos 0) (omega arith), le-not e (diff-pos 0) (omega arith))
+      (diff-leb (diff-mul e e) (line x k w (diff-move (diff-mul (diff-pos x) (diff-pos x)) (omega arith))) (P x k w * P x k w) (x * x * w) (omega arith))

@@ -1,13 +1,9 @@
 -- A row of the definition from the sums that the program makes, for every number q of squarings: by the definitions of the sums, and from
 -- numbers equal to them.
-use mathlib.Core.Path.{_≡_, refl}
-use mathlib.Core.List.{List}
-use Prim.Native.Nat.{ℕ, _-_, _*_}
-use lib.Dec.{eqb}
-use lib.ListN.{length}
-use lib.IntN.{ℤ, pos, _-ℤ_}
+use Rattle.arithmetic.proofs.Basics.{_≡_, refl, List, ℕ, _-_, _*_, eqb, length, ℤ, pos, _-ℤ_}
 use Rattle.rules.specs.Logarithm.{g}
-use Rattle.rules.specs.Plans.{knownDeviation, unknownDeviation, attributes, inService, lastRow, row, rowPasses, rowFails, decide, knownPasses, knownFails, rootPasses, rootFails, unknownNumbers, inServiceNumbers, attributesPasses, attributesFails, countOver}
+use Rattle.rules.specs.Plans.{knownDeviation, unknownDeviation, attributes, inService, lastRow, row, rowPasses, rowFails, decide, knownPasses, knownFails}
+use Rattle.rules.specs.Plans.{rootPasses, rootFails, unknownNumbers, inServiceNumbers, attributesPasses, attributesFails, countOver}
 use Rattle.rows.specs.Sums.{sumG, squaresG}
 use Rattle.rows.proofs.Sums.{D-is, W-is}
 

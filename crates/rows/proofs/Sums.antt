@@ -1,14 +1,5 @@
 -- D and W from the sums that the program makes, for every number q of squarings; W is never negative.
-use mathlib.Core.Path.{_≡_, ap, _∙_}
-use mathlib.Core.Bool.{true}
-use mathlib.Core.List.{List, [], _∷_, map}
-use Prim.Native.Nat.{ℕ, _+_, _-_, _*_, _≤_}
-use native.Mathlib.Omega.{arith}
-use lib.Dec.{leb·zero}
-use lib.ListN.{length}
-use lib.IntN.{pos, _-ℤ_}
-use lib.Signed.{leZ}
-use Rattle.arithmetic.proofs.Order.{twice}
+use Rattle.arithmetic.proofs.Basics.{_≡_, ap, _∙_, true, List, [], _∷_, map, ℕ, _+_, _-_, _*_, _≤_, arith, leb·zero, length, pos, _-ℤ_, leZ, twice}
 use Rattle.arithmetic.proofs.Integers.{Diff, diff-pos, diff-add, diff-minus, diff-mul, diff-move, diff-eq}
 use Rattle.rules.specs.Tools.{total, square}
 use Rattle.rules.specs.Logarithm.{g, d, D, W}

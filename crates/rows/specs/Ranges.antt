@@ -45,16 +45,3 @@ pub record NumberRanges (last : Bool) (a b added taken : ℕ) : Type 0 where
   pub b-most : b ≤ numberMost
   pub added-most : added ≤ sumMost
   pub taken-most : taken ≤ sumMost
-
--- D without its sign
-pub record DifferenceRange (difference : ℕ) : Type 0 where
-  pub difference-most : difference ≤ sumMost
-
--- a number of the tables, without its sign
-pub record NumberRange (x : ℕ) : Type 0 where
-  pub number-most : x ≤ numberMost
-
--- the two that are compared
-pub record ComparedRanges (difference x : ℕ) : Type 0 where
-  pub difference-most : difference ≤ sumMost
-  pub number-most : x ≤ numberMost

@@ -9,10 +9,10 @@ abbrev pub table : List Numbers
 table = printed ++ (− 3876 and 0 ∷ [])
 
 -- A without its minus
-unfoldable pub tableA : List ℕ
+abbrev pub tableA : List ℕ
 tableA = map (λ (r : Numbers). natAbs (r .A)) table
 
-unfoldable pub tableB : List ℕ
+abbrev pub tableB : List ℕ
 tableB = map (λ (r : Numbers). natAbs (r .B)) table
 
 -- two arrays that a caller lends hold them

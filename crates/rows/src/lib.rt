@@ -12,8 +12,6 @@ ghost use Rattle.rows.specs.Row.{rowIs};
 ghost use Rattle.rows.specs.Ranges.{KnownRanges, RootRanges, NumberRanges, RowRange};
 ghost use Rattle.rows.specs.Tables.{Lent};
 
-mod attributes;
-mod roots;
 pub mod unknown;
 
 use plan::Plan;
@@ -55,8 +53,8 @@ pub fn known_row(n: u64, added: u64, level: u64, deviation: u64) -> Row
     if above + 3525 * unit < line {
         return Row::Pass;
     }
-    // "B = −4724 − 66(n−3), and 1 more from n = 10", which is −4526 − 66n or −4525 − 66n.
-    if line + chosen(n < 10, 4526 * unit, 4525 * unit) < above {
+    // "B = −4724 − 66(n−3), and 1 more from n = 10", which is −4526 − 66n.
+    if line + 4526 * unit < above + (10 <= n) as u64 * unit {
         return Row::Fail;
     }
     Row::Open
@@ -71,14 +69,9 @@ pub fn unknown_row(n: u64, a: &[u32; 30], b: &[u32; 30], added: u64, taken: u64,
         (eqb n (rules.lastRow rules.unknownDeviation))
         (rules.rootFails (rules.unknownNumbers n .B) (pos added -ℤ pos taken) (pos spread)) ⌝ }
 {
-    root_row(
-        n == Plan::UNKNOWN_DEVIATION_LAST_ROW as u64,
-        unknown::entry(a, n) as u64,
-        unknown::entry(b, n) as u64,
-        added,
-        taken,
-        spread,
-    )
+    let i = (n - 3) as usize;
+    let last = n == Plan::UNKNOWN_DEVIATION_LAST_ROW as u64;
+    root_row(last, a[i] as u64, b[i] as u64, added, taken, spread)
 }
 
 // Plan 4, in service: "Rows as plan 2 up to 14; at 15, A is 15474."
@@ -98,20 +91,17 @@ pub fn in_service_row(
         (rules.rootFails (rules.inServiceNumbers n .B) (pos added -ℤ pos taken) (pos spread)) ⌝ }
 {
     if n < Plan::IN_SERVICE_LAST_ROW as u64 {
-        return root_row(
-            false,
-            unknown::entry(a, n) as u64,
-            unknown::entry(b, n) as u64,
-            added,
-            taken,
-            spread,
-        );
+        return unknown_row(n, a, b, added, taken, spread);
     }
     // "for A ≥ 0, P ≤ 0 or P² ≤ A²W". In the last row, what doesn't pass fails.
     if added <= taken {
         return Row::Pass;
     }
-    if roots::beyond(added - taken, IN_SERVICE_LAST_A, spread) {
+    let p = 100000 * (added - taken);
+    if wide::less(
+        wide::product(IN_SERVICE_LAST_A * IN_SERVICE_LAST_A, spread),
+        wide::product(p, p),
+    ) {
         return Row::Fail;
     }
     Row::Pass
@@ -119,19 +109,19 @@ pub fn in_service_row(
 
 // A row of plan 2 or 4 with A = −a below 0 and B = b: a D above 0 cannot pass, and a D of 0 or below can fail by B in the last row alone,
 // so one comparison decides. D's sign chooses between numbers and not between branches, because the processor guesses such a branch wrongly.
+// "P = 100,000 × D", "roots never taken": P² is compared with x²W. "Squares exceed 64 bits". Nothing is divided by √W, and W may be 0.
 fn root_row(last: bool, a: u64, b: u64, added: u64, taken: u64, spread: u64) -> Row
     requires { ⌜ NumberRanges last a b added taken ⌝ }
     ensures { λ r. ⌜ rowIs r ≡ rules.decide (rules.rootPasses (negℤ (pos a)) (pos added -ℤ pos taken) (pos spread)) last
         (rules.rootFails (pos b) (pos added -ℤ pos taken) (pos spread)) ⌝ }
 {
     let over = taken < added;
-    if roots::reaches(distance(added, taken), chosen(over, b, a), spread) {
-        return if over { Row::Fail } else { Row::Pass };
+    let x = chosen(over, b, a);
+    let p = 100000 * distance(added, taken);
+    if wide::less(wide::product(p, p), wide::product(x * x, spread)) {
+        return if last { Row::Fail } else { Row::Open };
     }
-    if last {
-        return Row::Fail;
-    }
-    Row::Open
+    if over { Row::Fail } else { Row::Pass }
 }
 
 // D without its sign.
@@ -148,29 +138,24 @@ fn chosen(test: bool, x: u64, y: u64) -> u64
     if test { x } else { y }
 }
 
-// Plan 3, attributes: `over` is the number of engines over the limit.
+// Plan 3, attributes: `over` is c, the number of engines over the limit.
 // For `decisions` alone, with a row of an accepted sheet: so it may require.
 pub fn attributes_row(n: u64, over: u64) -> Row
     requires { ⌜ RowRange n ⌝ }
     ensures { λ r. ⌜ rowIs r ≡ rules.decide (rules.attributesPasses n over) (eqb n (rules.lastRow rules.attributes))
         (rules.attributesFails n over) ⌝ }
 {
-    decide(
-        attributes::passes(n, over),
-        n == Plan::ATTRIBUTES_LAST_ROW as u64,
-        attributes::fails(n, over),
-    )
-}
-
-// "pass is tested first. In the last row, what doesn't pass fails."
-fn decide(passes: bool, last: bool, fails: bool) -> Row
-    ensures { λ r. ⌜ rowIs r ≡ rules.decide passes last fails ⌝ }
-{
-    if passes {
-        Row::Pass
-    } else if last | fails {
-        Row::Fail
-    } else {
-        Row::Open
+    // "At 19: pass up to 8, fail from 9."
+    if n == Plan::ATTRIBUTES_LAST_ROW as u64 {
+        return if over <= 8 { Row::Pass } else { Row::Fail };
     }
+    // "Pass if c ≤ (n−4)/2 rounded down, never at n = 3", which is c < (n−2)/2: 0 at 3.
+    if over < (n - 2) / 2 {
+        return Row::Pass;
+    }
+    // "fail if c ≥ n/2 rounded down + 2"
+    if n / 2 + 2 <= over {
+        return Row::Fail;
+    }
+    Row::Open
 }

@@ -1,8 +1,5 @@
 // Plan 2's numbers, which plan 4 has up to 14. A caller lends them, because an array that is a constant is built anew at each use.
 ghost use mathlib.Core.Path.{_≡_};
-ghost use Prim.Native.Nat.{_-_};
-ghost use lib.ListN.{getD};
-ghost use Rattle.rows.specs.Ranges.{RowRange};
 ghost use Rattle.rows.specs.Tables.{tableA, tableB};
 
 // "Hundred-thousandths, A/B from n = 3": A without its minus.
@@ -85,12 +82,4 @@ pub fn table_b() -> [u32; 30]
     ensures { λ r. ⌜ r ≡ tableB ⌝ }
 {
     B
-}
-
-// The number of row n.
-pub(crate) fn entry(table: &[u32; 30], n: u64) -> u32
-    requires { ⌜ RowRange n ⌝ }
-    ensures { λ r. ⌜ r ≡ getD (now (table .entry)) (n - 3) 0 ⌝ }
-{
-    table[(n - 3) as usize]
 }

@@ -1,39 +1,37 @@
--- The loop over the declared pollutants: the tally of those that are left is the tally of all, and so are the marks.
-use Prim.Native.Nat.{ℕ, zero, suc, _+_, _≤_, _<_}
-use native.Mathlib.Omega.{arith}
-use native.Mathlib.Numerals.{add-one}
-use mathlib.Core.Path.{_≡_, refl, sym, ap, _∙_}
-use mathlib.Core.Bool.{Bool, true, false, _||_}
-use mathlib.Core.List.{List, [], _∷_, map}
-use lib.Dec.{eqb}
-use lib.ListN.{length, getD, drop}
-use borrow.Author.Tests.{eq-eqb}
+-- The loop over the declared pollutants of an accepted sheet: the tally of those that are left is the tally of all, and so are the marks.
+use Rattle.arithmetic.proofs.Basics.{ℕ, zero, suc, _+_, _≤_, _<_, arith, add-one, _≡_, refl, sym, ap, _∙_, true, false, List, [], _∷_, map, eqb, length, getD}
+use Rattle.arithmetic.proofs.Basics.{drop, eq-eqb, or-true}
 use Rattle.rules.specs.Logarithm.{squarings}
-use Rattle.rules.specs.Sheet.{Record, Pollutant, pollutants, numbers, pollutant, number, limit, deviation, declares}
+use Rattle.rules.specs.Sheet.{Pollutant, pollutants, numbers, pollutant, declares}
+use Rattle.rules.specs.Plans.{planOf}
 use Rattle.rules.specs.Series as rules
 use Rattle.rules.specs.Refusals.{greatestDeviation}
-use Rattle.arithmetic.proofs.Booleans.{or-true}
-use Rattle.accepted.specs.Sheets.{recordAt, pollutantsIn, enginesIn}
+use Rattle.accepted.specs.Sheets.{recordAt, pollutantsIn, enginesIn, AcceptedSheet}
 use Rattle.accepted.proofs.ByNumber.{InOrder}
 use Rattle.accepted.proofs.Sheets.{order, declared-length, pollutant-is}
+use Rattle.faults.specs.declared.Summary.{Summary}
+use Rattle.checking.specs.Check.{Valid}
+use Rattle.checking.proofs.Laws as laws
 use Rattle.plan.specs.declared.Plan.{Plan}
 use Rattle.plan.specs.Plan.{planIs}
 use Rattle.logarithm.specs.Four.{Measured}
-use Rattle.columns.specs.Columns.{rowOf, columnOf}
+use Rattle.columns.specs.Columns.{rowOf, columnOf, rowsOf}
 use Rattle.columns.specs.Tally as columns
 use Rattle.columns.proofs.Cut.{Column, is-column}
-use Rattle.columns.proofs.Tally.{with-most, tally-next, tally-end}
-use Rattle.columns.proofs.Marks.{marked-next, marked-end}
-use Rattle.causes.specs.Causes.{beforeIn}
+use Rattle.columns.proofs.Tally.{with-most, tally-next}
+use Rattle.columns.proofs.Marks.{marked-next}
+use Rattle.causes.specs.declared.Gate.{Gate}
+use Rattle.causes.specs.Causes.{gateIs, beforeIn, gateOf}
 use Rattle.decisions.specs.declared.Decision.{Decision}
-use Rattle.decisions.specs.Decisions.{decisionIs, declaredIs, decisionsWith}
+use Rattle.decisions.specs.declared.Decisions.{Decisions}
+use Rattle.decisions.specs.Decisions.{noDecisions, decisionIs, declaredIs, decisionsWith}
 use Rattle.decisions.specs.Column.{ColumnIs}
 use Rattle.decisions.specs.Ranges.{ColumnRange}
 use Rattle.decisions.proofs.Placing.{with-declared}
 use Rattle.series.specs.declared.tally.Tally.{Tally}
-use Rattle.series.specs.Tally.{tallyIs, tallyStart, TalliedIs, TallyRange}
+use Rattle.series.specs.Tally.{tallyIs}
 
--- pollutant k is declared, and its limit and deviation are in range
+-- a pollutant that is declared, with limit and deviation in range
 record InRange (ps : List Pollutant) (p : Pollutant) : Type 0 where
   declared : declares ps (p .number) ≡ true
   limited : Measured (p .limit)
@@ -48,70 +46,67 @@ order-at w m (p ∷ ps) d o (suc k) l =
     let r = order-at w (p .number) ps d (o .5) k (omega arith) in
     record { declared = rw (r .declared) (or-true (eqb (p .number) (getD ps k d .number))); limited = r .limited; deviating = r .deviating }
 
-abbrev columnsOf : Plan → List ℕ → Pollutant → ℕ → rules.Decision
+abbrev pub columnsOf : Plan → List ℕ → Pollutant → ℕ → rules.Decision
 columnsOf plan b = columnOf (planIs plan) (pollutantsIn b) squarings (enginesIn b)
 
-abbrev unmarked : List Bool
-unmarked = map (λ p. false) (numbers pollutants)
+-- an accepted sheet, its plan and its gate
+pub record Opened (b : List ℕ) (s : Summary) (plan : Plan) (g : Gate) : Type 0 where
+  pub valid : Valid b s
+  pub planned : planIs plan ≡ planOf (s .plan)
+  pub gated : gateIs g ≡ gateOf (planIs plan) b (s .engines)
 
--- what the loop keeps after k pollutants
-pub record Kept (b : List ℕ) (start : ℕ) (plan : Plan) (rows k : ℕ) (t : Tally) : Type 0 where
+-- what the loop keeps after k of the pollutants before the record start
+pub record Kept (b : List ℕ) (start : ℕ) (plan : Plan) (g : Gate) (k : ℕ) (t : Tally) : Type 0 where
   pub few : k ≤ start
-  pub lower : t .rows ≤ rows
-  pub left : columns.tally (columnsOf plan b) (drop k (pollutantsIn b)) (tallyIs t) ≡ columns.tally (columnsOf plan b) (pollutantsIn b) (columns.started pollutants rows)
-  pub marks : columns.marked (drop k (pollutantsIn b)) (declaredIs (t .decisions)) ≡ columns.marked (pollutantsIn b) unmarked
+  pub lower : t .rows ≤ rowsOf (gateIs g)
+  pub left : columns.tally (columnsOf plan b) (drop k (pollutantsIn b)) (tallyIs t)
+      ≡ columns.tally (columnsOf plan b) (pollutantsIn b) (columns.started pollutants (rowsOf (gateIs g)))
+  pub marks : columns.marked (drop k (pollutantsIn b)) (declaredIs (t .decisions)) ≡ columns.marked (pollutantsIn b) (map (λ p. false) (numbers pollutants))
 
-module _ {b : List ℕ} {start : ℕ} {plan : Plan} {rows : ℕ} (range : TallyRange b start plan rows) where
+module _ {b : List ℕ} {s : Summary} {plan : Plan} {g : Gate} (o : Opened b s plan g) where
   abbrev ps : List Pollutant
   ps = pollutantsIn b
+
+  pub sheet : AcceptedSheet b (planIs plan) (s .head)
+  sheet = rw (o .planned) (laws.accepted-so (o .valid))
 
   each : (p : Pollutant) → Column (columnsOf plan b p)
   each p = is-column (beforeIn (planIs plan) b) (rowOf (planIs plan) squarings (enginesIn b) p)
 
-  pub kept-none : {t : Tally} → t ≡ tallyStart rows → Kept b start plan rows 0 t
+  pub kept-none : {rows : ℕ} {ds : Decisions} → rows ≡ rowsOf (gateIs g) → ds ≡ noDecisions
+      → Kept b (s .head) plan g 0 (record { rows = rows; latest = 0; failed = false; waits = false; decisions = ds })
   unfolding columns.started
-  kept-none e = rw e (record { few = omega arith; lower = omega arith; left = refl; marks = refl })
+  kept-none re de = rw (re, de) (record { few = omega arith; lower = omega arith; left = refl; marks = refl })
 
-  module _ {k : ℕ} {t : Tally} (kept : Kept b start plan rows k t) (l : k < start) {r : Record} (re : r ≡ recordAt b k) where
-    is-pollutant : getD ps k (pollutant []) ≡ pollutant r
-    is-pollutant = pollutant-is (range .sheet) k l ∙ ap pollutant (sym re)
+  module _ {k : ℕ} {t : Tally} (kept : Kept b (s .head) plan g k t) (l : k < s .head)
+      {n L d : ℕ} (e : record { number = n; limit = L; deviation = d } ≡ pollutant (recordAt b k)) where
+    is-pollutant : getD ps k (pollutant []) ≡ record { number = n; limit = L; deviation = d }
+    is-pollutant = pollutant-is sheet k l ∙ sym e
 
     in-list : k < length ps
-    in-list = rw (declared-length (range .sheet)) l
+    in-list = rw (declared-length sheet) l
 
-    pub column-range : {n L d rows′ : ℕ} → n ≡ number r → L ≡ limit r → d ≡ deviation r → rows′ ≡ t .rows → ColumnRange b start plan n L d rows′
-    unfolding pollutant
-    column-range ne le de re′ =
-        let o = rw is-pollutant at (order-at pollutants 0 ps (pollutant []) (order (range .sheet)) k in-list) in
-        let i = range .inside in
-        let j = kept .lower in
-        record { sheet = range .sheet; declared = rw ne (o .declared); limit = rw le (o .limited); deviation = rw de (o .deviating); inside = omega arith }
+    pub column-range : ColumnRange b (s .head) plan n L d (t .rows)
+    column-range =
+        let r = rw is-pollutant at (order-at pollutants 0 ps (pollutant []) (order sheet) k in-list) in
+        record {
+          sheet = sheet;
+          declared = r .declared;
+          limit = r .limited;
+          deviation = r .deviating;
+          inside = rw (← (laws.engines-are (o .valid)), ← (o .gated)) (kept .lower);
+        }
 
-    pub kept-more : {n L d rows′ : ℕ} → n ≡ number r → L ≡ limit r → d ≡ deviation r → rows′ ≡ t .rows → (x : Decision) → ColumnIs plan b n L d rows′ x
-        → (u : Tally) → tallyIs u ≡ columns.counted n (decisionIs x) (tallyIs t) → u .decisions ≡ decisionsWith n x (t .decisions)
-        → Kept b start plan rows (k + 1) u
-    unfolding pollutant
-    kept-more ne le de re′ x xe u ue de′ =
-        let p : Pollutant = pollutant r in
-        let w : tallyIs u ≡ columns.counted (p .number) (columnsOf plan b p (t .rows)) (tallyIs t) = ue ∙ (rw (xe .decides, ne, le, de, re′) refl) in
-        let n = rw is-pollutant at (tally-next (columnsOf plan b) ps (pollutant []) k (tallyIs t) in-list) in
-        let m = with-most (columnsOf plan b) each p (tallyIs t) in
-        let j = kept .lower in
-        let v : u .rows ≡ columns.counted (p .number) (columnsOf plan b p (t .rows)) (tallyIs t) .rows = ap (λ (o : columns.Tally). o .rows) w in
+    pub kept-more : {x : Decision} → ColumnIs plan b n L d (t .rows) x → {u : Tally}
+        → (tallyIs u ≡ columns.counted n (decisionIs x) (tallyIs t)) × (u .decisions ≡ decisionsWith n x (t .decisions))
+        → Kept b (s .head) plan g (k + 1) u
+    kept-more {x} xe {u} ue =
+        let p : Pollutant = record { number = n; limit = L; deviation = d } in
+        let w : tallyIs u ≡ columns.counted n (columnsOf plan b p (t .rows)) (tallyIs t) = ue .0 ∙ (rw (xe .decides) refl) in
         let f = rw is-pollutant at (marked-next ps (pollutant []) k (declaredIs (t .decisions)) in-list) in
         record {
           few = omega arith;
-          lower = omega arith;
-          left = rw (add-one k, w) (sym n ∙ kept .left);
-          marks = rw (add-one k, de′) (ap (columns.marked (drop (suc k) ps)) (with-declared _ x (t .decisions) ∙ (rw (xe .declared, ne) refl)) ∙ sym f ∙ kept .marks);
+          lower = omega (arith, with-most (columnsOf plan b) each p (tallyIs t), kept .lower, ap (λ (o : columns.Tally). o .rows) w);
+          left = rw (add-one k, w) (sym (rw is-pollutant at (tally-next (columnsOf plan b) ps (pollutant []) k (tallyIs t) in-list)) ∙ kept .left);
+          marks = rw (add-one k, ue .1, with-declared n x (t .decisions), xe .declared) (sym f ∙ kept .marks);
         }
-
-  pub kept-all : {k : ℕ} {t : Tally} → Kept b start plan rows k t → start ≤ k → TalliedIs b plan rows t
-  kept-all {k} {t} kept l =
-      let n = declared-length (range .sheet) in
-      let j = kept .few in
-      let e : k ≡ length ps = omega arith in
-      record {
-        tallies = sym (tally-end (columnsOf plan b) ps (tallyIs t)) ∙ (rw (← e) (kept .left));
-        marks = sym (marked-end ps (declaredIs (t .decisions))) ∙ (rw (← e) (kept .marks));
-      }

@@ -1,9 +1,9 @@
 -- What judging answers, as document 01's numbers.
-use Prim.Native.Nat.{ℕ, _+_, _*_, _<_}
+use Prim.Native.Nat.{ℕ}
 use mathlib.Core.Path.{_≡_}
 use mathlib.Core.List.{List, map}
 use Rattle.rules.specs.Logarithm.{squarings}
-use Rattle.rules.specs.Sheet.{recordSize, pollutants, numbers, records, declared, declares}
+use Rattle.rules.specs.Sheet.{pollutants, numbers, records, declared, declares}
 use Rattle.rules.specs.Series as rules
 use Rattle.checking.specs.declared.Refusal.{Refusal}
 use Rattle.checking.specs.declared.Checked.{Checked}
@@ -60,16 +60,3 @@ pub record JudgementIs (b : List ℕ) (j : Judgement) : Type 0 where
 abbrev pub refusalIn : Checked → Refusal
 refusalIn (checked.Refused r) = r
 refusalIn (checked.Accepted s) = record { number = 0; place = 0 }
-
--- how many bytes are evidence for a verdict, of a sheet of so many bytes with so many records before its first engine
-abbrev pub evidenceLength : Verdict → (bytes head : ℕ) → ℕ
-evidenceLength (Another n) bytes head = bytes
-evidenceLength (Pass n) bytes head = recordSize * (head + n)
-evidenceLength (FailByRow n) bytes head = recordSize * (head + n)
-evidenceLength (FailByCause n) bytes head = recordSize * (head + n)
-evidenceLength (FailByStop n) bytes head = bytes
-evidenceLength (Referred n) bytes head = bytes
-
--- the records before the first engine, of which there are few
-pub record HeadRange (head : ℕ) : Type 0 where
-  pub few : head < 1000

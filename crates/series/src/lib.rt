@@ -1,11 +1,10 @@
 // The series: what the columns of a sheet come to together, and what judging answers.
 ghost use mathlib.Core.Path.{_≡_};
-ghost use Prim.Native.Nat.{_+_, _*_};
 ghost use Rattle.rules.specs.Logarithm.{squarings};
-ghost use Rattle.rules.specs.Sheet.{pollutants, recordSize};
+ghost use Rattle.rules.specs.Sheet.{pollutants};
 ghost use Rattle.rules.specs.Refusals as refusals;
 ghost use Rattle.rules.specs.Operations as rules;
-ghost use Rattle.series.specs.Answers.{numbersOf, judgedIs, DeclaredIs, refusalIn, evidenceLength, HeadRange};
+ghost use Rattle.series.specs.Answers.{numbersOf, judgedIs, DeclaredIs, refusalIn};
 use checking::Checked;
 use checking::Refusal;
 use checking::check;
@@ -35,9 +34,9 @@ fn numbered(verdict: u8, engine: u8, ground: u8) -> Numbers
     ensures { λ n. ⌜ n ≡ record { verdict = verdict; engine = engine; ground = ground } ⌝ }
 {
     Numbers {
-        verdict: verdict,
-        engine: engine,
-        ground: ground,
+        verdict,
+        engine,
+        ground,
     }
 }
 
@@ -74,11 +73,11 @@ fn refusal(checked: Checked) -> Refusal
     ensures { λ r. ⌜ r ≡ refusalIn checked ⌝ }
 {
     match checked {
-        Checked::Refused(r) => r,
         Checked::Accepted(_) => Refusal {
             number: 0,
             place: 0,
         },
+        Checked::Refused(r) => r,
     }
 }
 
@@ -94,30 +93,6 @@ pub fn judge(bytes: &[u8]) -> Judged
     Judged::Judgement(judgement_of(bytes, sheet))
 }
 
-// The bytes through the record of engine n, which stands behind the head and n - 1 engines.
-fn through(head: u32, n: u8) -> usize
-    requires { ⌜ HeadRange head ⌝ }
-    ensures { λ e. ⌜ e ≡ recordSize * (head + n) ⌝ }
-{
-    record::SIZE * (head as usize + n as usize)
-}
-
-// How many bytes of a sheet of so many bytes and such a head are evidence for a verdict:
-// "through the deciding engine's record; the whole sheet where undecided, stopped or referred".
-fn evidence_length(verdict: Verdict, length: usize, head: u32) -> usize
-    requires { ⌜ HeadRange head ⌝ }
-    ensures { λ n. ⌜ n ≡ evidenceLength verdict length head ⌝ }
-{
-    match verdict {
-        Verdict::Another(_) => length,
-        Verdict::Pass(n) => through(head, n),
-        Verdict::FailByRow(n) => through(head, n),
-        Verdict::FailByCause(n) => through(head, n),
-        Verdict::FailByStop(_) => length,
-        Verdict::Referred(_) => length,
-    }
-}
-
 // "Evidence hands back the part of the sheet from its start"; a refusal "as judge, with an empty part": code gets its number × 256 + record, and 0 of an accepted sheet.
 pub fn evidence<'a>(bytes: &'a [u8], code: &mut u32) -> &'a [u8]
     ensures { λ r. ⌜ now r ≡ rules.evidence pollutants squarings (now (bytes .entry)) ⌝ }
@@ -131,6 +106,11 @@ pub fn evidence<'a>(bytes: &'a [u8], code: &mut u32) -> &'a [u8]
     *code = 0;
     let judgement = judgement_of(bytes, sheet);
     let verdict = judgement.verdict;
-    let end = evidence_length(verdict, bytes.len(), sheet.head);
-    &bytes[..end]
+    let Numbers { engine, ground, .. } = verdict.numbers();
+    // "through the deciding engine's record; the whole sheet where undecided, stopped or referred": the ground tells which
+    if (ground == 1) | (ground == 2) {
+        let end = record::SIZE * (sheet.head as usize + engine as usize);
+        return &bytes[..end];
+    }
+    bytes
 }

@@ -1,16 +1,10 @@
 // The columns of an accepted sheet one after the other, each to the least failing row so far, and the verdict on them together.
 ghost use mathlib.Core.Path.{_≡_};
-ghost use mathlib.Core.Bool.{cond};
-ghost use lib.Dec.{ltb};
-ghost use Rattle.rules.specs.Logarithm.{squarings};
-ghost use Rattle.rules.specs.Sheet.{pollutants, records};
-ghost use Rattle.rules.specs.Series.{judgeRecords};
-ghost use Rattle.columns.specs.Tally.{counted, tallied};
+ghost use Rattle.columns.specs.Tally.{counted};
 ghost use Rattle.checking.specs.Check.{Valid};
-ghost use Rattle.causes.specs.Causes.{gateIs};
-ghost use Rattle.decisions.specs.Decisions.{decisionIs, decisionsWith, declaredIs};
-ghost use Rattle.series.specs.Answers.{judgementIs, JudgementIs};
-ghost use Rattle.series.specs.Tally.{tallyIs, tallyStart, verdictBy, TalliedIs, GateFits, TallyRange};
+ghost use Rattle.decisions.specs.Decisions.{decisionIs, decisionsWith};
+ghost use Rattle.series.specs.Answers.{JudgementIs};
+ghost use Rattle.series.specs.Tally.{tallyIs, VerdictIs, GateFits};
 use crate::Judgement;
 use crate::Verdict;
 use causes::Gate;
@@ -35,123 +29,81 @@ pub struct Tally {
     pub decisions: Decisions,
 }
 
-fn higher(n: u8, m: u8) -> u8
-    ensures { λ r. ⌜ r ≡ cond (ltb m n) n m ⌝ }
-{
-    if m < n { n } else { m }
-}
-
 impl Tally {
-    // Before the first column, which looks at so many rows.
-    fn start(rows: u8) -> Tally
-        ensures { λ t. ⌜ t ≡ tallyStart rows ⌝ }
-    {
-        Tally {
-            rows: rows,
-            latest: 0,
-            failed: false,
-            waits: false,
-            decisions: Decisions::none(),
-        }
-    }
-
     // With the column of the pollutant of that number.
     fn with(self, number: u32, d: Decision) -> Tally
         ensures { λ t. ⌜ (tallyIs t ≡ counted number (decisionIs d) (tallyIs self)) × (t .decisions ≡ decisionsWith number d (self .decisions)) ⌝ }
     {
         let before = self.decisions;
         let decisions = before.with(number, d);
+        let waiting = Tally {
+            waits: true,
+            decisions,
+            ..self
+        };
         match d {
-            Decision::Undeclared => Tally {
-                rows: self.rows,
-                latest: self.latest,
-                failed: self.failed,
-                waits: true,
-                decisions: decisions,
-            },
-            Decision::Open => Tally {
-                rows: self.rows,
-                latest: self.latest,
-                failed: self.failed,
-                waits: true,
-                decisions: decisions,
-            },
-            Decision::Passed(n) => Tally {
-                rows: self.rows,
-                latest: higher(n, self.latest),
-                failed: self.failed,
-                waits: self.waits,
-                decisions: decisions,
-            },
+            Decision::Undeclared => waiting,
+            Decision::Open => waiting,
+            Decision::Passed(n) => {
+                if self.latest < n {
+                    Tally {
+                        latest: n,
+                        decisions,
+                        ..self
+                    }
+                } else {
+                    Tally { decisions, ..self }
+                }
+            }
             Decision::Failed(n) => Tally {
                 rows: n,
-                latest: self.latest,
                 failed: true,
-                waits: self.waits,
-                decisions: decisions,
+                decisions,
+                ..self
             },
         }
     }
 
-    // The judgement of a sheet of so many engines: decisions later than the least failing row are open.
-    fn judged(self, gate: Gate, stop: bool, engines: u8) -> Judgement
+    // "Any fail in a row: the series fails there .. All passed: pass." Else what ended the rows: "A stop on an undecided series fails it at the engines tested .. Otherwise: another."
+    fn verdict(self, gate: Gate, stop: bool, engines: u8) -> Verdict
         requires { ⌜ GateFits gate ⌝ }
-        ensures { λ j. ⌜ (judgementIs j ≡ tallied stop engines (gateIs gate) (tallyIs self)) × (declaredIs (j .decisions) ≡ declaredIs (self .decisions)) ⌝ }
+        ensures { λ v. ⌜ VerdictIs self gate stop engines v ⌝ }
     {
-        let decisions = self.decisions;
-        Judgement {
-            verdict: verdict_by(
-                self.failed,
-                self.waits,
-                self.rows,
-                self.latest,
-                gate,
-                stop,
-                engines,
-            ),
-            decisions: decisions.up_to(self.rows),
+        if self.failed {
+            return Verdict::FailByRow(self.rows);
         }
-    }
-}
-
-// "Any fail in a row: the series fails there .. All passed: pass." Else what ended the rows: "A stop on an undecided series fails it at the engines tested .. Otherwise: another."
-fn verdict_by(
-    failed: bool,
-    waits: bool,
-    rows: u8,
-    latest: u8,
-    gate: Gate,
-    stop: bool,
-    engines: u8,
-) -> Verdict
-    requires { ⌜ GateFits gate ⌝ }
-    ensures { λ v. ⌜ v ≡ verdictBy failed waits rows latest gate stop engines ⌝ }
-{
-    if failed {
-        return Verdict::FailByRow(rows);
-    }
-    if !waits {
-        return Verdict::Pass(latest);
-    }
-    match gate {
-        Gate::Open(_) => {
-            if stop {
-                Verdict::FailByStop(engines)
-            } else {
-                Verdict::Another(engines)
+        if !self.waits {
+            return Verdict::Pass(self.latest);
+        }
+        match gate {
+            Gate::Open(_) => {
+                if stop {
+                    Verdict::FailByStop(engines)
+                } else {
+                    Verdict::Another(engines)
+                }
             }
+            Gate::Cause(n) => Verdict::FailByCause(n + 1),
+            Gate::Referral(n) => Verdict::Referred(n + 1),
         }
-        Gate::Cause(n) => Verdict::FailByCause(n + 1),
-        Gate::Referral(n) => Verdict::Referred(n + 1),
     }
 }
 
-// The columns of the declared pollutants, whose records stand before the record start.
-fn all_columns(bytes: &[u8], start: usize, plan: Plan, rows: u8) -> Tally
-    requires { ⌜ TallyRange (now bytes) start plan rows ⌝ }
-    ensures { λ t. ⌜ TalliedIs (now (bytes .entry)) plan rows t ⌝ }
+// The judgement of a sheet that the check accepts: the columns of its declared pollutants, whose records stand before the first engine's, and the verdict on them together.
+pub(crate) fn judgement_of(bytes: &[u8], sheet: Summary) -> Judgement
+    requires { ⌜ Valid (now bytes) sheet ⌝ }
+    ensures { λ j. ⌜ JudgementIs (now (bytes .entry)) j ⌝ }
 {
-    let mut t = Tally::start(rows);
+    let plan = Plan::of(sheet.plan);
+    let start = sheet.head as usize;
+    let gate = gate_of(bytes, start, sheet.engines as usize, plan);
+    let mut t = Tally {
+        rows: gate.rows(),
+        latest: 0,
+        failed: false,
+        waits: false,
+        decisions: Decisions::none(),
+    };
     let mut k: usize = 0;
     while k < start {
         let r = record_at(bytes, k);
@@ -168,17 +120,10 @@ fn all_columns(bytes: &[u8], start: usize, plan: Plan, rows: u8) -> Tally
         t = t.with(number, d);
         k += 1;
     }
-    t
-}
-
-// The judgement of a sheet that the check accepts.
-pub(crate) fn judgement_of(bytes: &[u8], sheet: Summary) -> Judgement
-    requires { ⌜ Valid (now bytes) sheet ⌝ }
-    ensures { λ j. ⌜ JudgementIs (now (bytes .entry)) j ⌝ }
-{
-    let plan = Plan::of(sheet.plan);
-    let start = sheet.head as usize;
-    let gate = gate_of(bytes, start, sheet.engines as usize, plan);
-    let t = all_columns(bytes, start, plan, gate.rows());
-    t.judged(gate, sheet.kind == STOP, sheet.engines as u8)
+    let decisions = t.decisions;
+    // decisions later than the least failing row are open
+    Judgement {
+        verdict: t.verdict(gate, sheet.kind == STOP, sheet.engines as u8),
+        decisions: decisions.up_to(t.rows),
+    }
 }

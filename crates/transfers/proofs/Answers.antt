@@ -1,37 +1,26 @@
 -- What a call answered, from the numbers that it handed over: a count below 0 is a failure, and errno says of which kind.
-use Prim.Native.Nat.{ℕ, _-_, _^_, _≤_, _<_}
-use mathlib.Core.Path.{_≡_, refl, sym, ap, subst}
-use mathlib.Core.Bool.{Bool, true, false, cond}
-use lib.Dec.{T, eqb}
-use lib.IntN.{ℤ, pos, negsuc, natAbs}
-use lib.ListN.{length, take, drop, length-take, length-drop}
-use lib.Signed.{mag, ltZ, nonNeg}
-use mathlib.Core.List.{List}
+use Rattle.arithmetic.proofs.Basics.{ℕ, _-_, _^_, _≤_, _<_, _≡_, refl, sym, ap, Bool, true, false, cond, T, eqb, ℤ, pos, negsuc, natAbs, length, take, drop}
+use Rattle.arithmetic.proofs.Basics.{length-take, length-drop, mag, leZ, nonNeg, List, arith, ne-eqb, leb-false, never}
 use mir.Syntax.{w64}
 use mir.Val.{toZ, ofZ, hbits}
 use mir.Facts.{toZ-ofZ}
-use native.Mathlib.Omega.{arith}
-use borrow.Author.Tests.{ne-eqb, ltb-true}
 use Rattle.libc.specs.Io as libc
 use Rattle.transfers.specs.declared.Answer.{Answer}
-use Rattle.transfers.specs.declared.Answer.the-variants.{Moved, Interrupted, Unready, Broken}
+use Rattle.transfers.specs.declared.Answer.the-variants.{Moved, Again, Broken}
 use Rattle.transfers.specs.Transfers.{failure, answer, bytesOf, Room}
+
+-- a count that is not negative, and one that is
+pub counted : (got error : ℤ) → leZ (pos 0) got ≡ true → T (nonNeg got) × (Moved (natAbs got) ≡ answer got error)
+counted (pos n) error e = (tt, refl)
+counted (negsuc n) error e = never (sym e)
+
+pub failed : (got error : ℤ) → leZ (pos 0) got ≡ false → failure error ≡ answer got error
+failed (pos n) error e = let no = leb-false 0 n e in absurd (omega arith)
+failed (negsuc n) error e = refl
 
 pub other-failure : (error : ℤ) → (error ≡ pos 4 → ⊥) → (error ≡ pos 11 → ⊥) → Broken ≡ failure error
 other-failure (pos e) f g = rw (ne-eqb e 4 (λ p. f (ap pos p)), ne-eqb e 11 (λ p. g (ap pos p))) refl
 other-failure (negsuc e) f g = refl
-
-pub failed : (got error : ℤ) → ltZ got (pos 0) ≡ true → failure error ≡ answer got error
-failed (pos n) error e = let never = ltb-true n 0 e in absurd (omega arith)
-failed (negsuc n) error e = refl
-
-pub not-negative : (got : ℤ) → ltZ got (pos 0) ≡ false → T (nonNeg got)
-not-negative (pos n) e = tt
-not-negative (negsuc n) e = absurd (subst T e tt)
-
-pub moved : (got error : ℤ) → T (nonNeg got) → Moved (natAbs got) ≡ answer got error
-moved (pos n) error t = refl
-moved (negsuc n) error t = absurd t
 
 -- ---- an answer's bytes
 
@@ -40,7 +29,7 @@ no-bytes true a b h k = h
 no-bytes false a b h k = k
 
 failure-bytes : (error : ℤ) → bytesOf (failure error) ≡ 0
-failure-bytes (pos e) = no-bytes (eqb e 4) Interrupted (cond (eqb e 11) Unready Broken) refl (no-bytes (eqb e 11) Unready Broken refl refl)
+failure-bytes (pos e) = no-bytes (eqb e 4) (Again false) (cond (eqb e 11) (Again true) Broken) refl (no-bytes (eqb e 11) (Again true) Broken refl refl)
 failure-bytes (negsuc e) = refl
 
 answer-bytes : (n : ℕ) (got error : ℤ) → libc.Moved n got → bytesOf (answer got error) ≤ n

@@ -1,16 +1,13 @@
 -- A transfer keeps within its bytes, and each answer brings it nearer to its end.
-use Prim.Native.Nat.{ℕ, zero, suc, _+_, _-_, _*_, _≤_, _<_}
-use native.Mathlib.Omega.{arith}
-use mathlib.Core.Path.{_≡_, refl}
-use mathlib.Core.Bool.{Bool}
-use mathlib.Core.Logic.{⊎-elim}
-use borrow.Author.Tests.{le-leb, lt-leb}
-use Rattle.arithmetic.proofs.Order.{lt-or-ge}
+use Rattle.arithmetic.proofs.Basics.{ℕ, zero, suc, _+_, _-_, _*_, _≤_, _<_, arith, _≡_, Bool, false, cond, [], _∷_, leb, leb-true, leb-false, by-test}
+use types.Run.{OneOf, miss}
+use denote.Enum.Declared.{tagOf}
 use Rattle.transfers.specs.declared.Answer.{Answer}
-use Rattle.transfers.specs.declared.Answer.the-variants.{Moved, Interrupted, Unready, Broken}
+use Rattle.transfers.specs.declared.Answer.the-variants.{Moved, Again, Broken}
 use Rattle.transfers.specs.declared.Transfer.{Transfer}
 use Rattle.transfers.specs.declared.Transfer.the-variants.{Open, Ended, Full, Failed}
-use Rattle.transfers.specs.Transfers.{patience, again, further, next, Room}
+use Rattle.transfers.specs.Transfers.{patience, further, next, Room, Over}
+use Rattle.transfers.proofs.Transfer.{the-type}
 
 -- on its way a transfer has bytes to move; behind it, what `Over` says
 abbrev pub Going : (size : ℕ) → Transfer → Type 0
@@ -19,6 +16,13 @@ Going size (Ended moved) = moved < size
 Going size (Full moved) = moved ≡ size
 Going size Failed = Unit {0}
 
+-- one that is not open is over
+pub over : (size : ℕ) (t : Transfer) → OneOf (1 ∷ 2 ∷ 3 ∷ []) (tagOf the-type t) → Going size t → Over t size
+over size (Open moved tries pause) k g = miss (1 ∷ 2 ∷ 3 ∷ []) 0 tt k
+over size (Ended moved) k g = g
+over size (Full moved) k g = g
+over size Failed k g = tt
+
 -- the calls that may still come, at most
 abbrev pub left : (size : ℕ) → Transfer → ℕ
 left size (Open moved tries pause) = (size - moved) * suc patience + suc tries
@@ -26,39 +30,27 @@ left size (Ended moved) = 0
 left size (Full moved) = 0
 left size Failed = 0
 
-further-going : (size moved : ℕ) → moved ≤ size → Going size (further size moved)
-further-going size moved h =
-    ⊎-elim (λ l. rw (lt-leb size moved l) l) (λ g. rw (le-leb size moved g) (omega arith)) (lt-or-ge moved size)
-
-again-going : (size moved tries : ℕ) (pause : Bool) → moved < size → Going size (again moved tries pause)
-again-going size moved zero pause h = tt
-again-going size moved (suc tries) pause h = h
+-- what holds of a transfer that is full, and of one that goes on, holds of the one that so many moved bytes lead to
+pub further-is : (P : Transfer → Type 0) (size moved : ℕ) → (size ≤ moved → P (Full moved)) → (moved < size → P (Open moved patience false)) → P (further size moved)
+further-is P size moved full on =
+    by-test (λ t. P (cond t (Full moved) (Open moved patience false))) (leb size moved) (λ e. full (leb-true size moved e)) (λ e. on (leb-false size moved e))
 
 next-going : (size moved tries : ℕ) (a : Answer) → moved < size → Room size moved a → Going size (next size moved tries a)
 next-going size moved tries (Moved zero) h r = h
-next-going size moved tries (Moved (suc n)) h r = further-going size (moved + suc n) (r .room)
-next-going size moved tries Interrupted h r = again-going size moved tries _ h
-next-going size moved tries Unready h r = again-going size moved tries _ h
+next-going size moved tries (Moved (suc n)) h r = further-is (Going size) size (moved + suc n) (λ g. omega (arith, r .room)) (λ l. l)
+next-going size moved zero (Again pause) h r = tt
+next-going size moved (suc tries) (Again pause) h r = h
 next-going size moved tries Broken h r = tt
 
 pub start-going : (size : ℕ) → Going size (further size 0)
-start-going size = further-going size 0 (omega arith)
-
-further-less : (size moved n tries : ℕ) → moved + suc n ≤ size → left size (further size (moved + suc n)) < (size - moved) * suc patience + suc tries
-further-less size moved n tries h =
-    ⊎-elim (λ l. rw (lt-leb size (moved + suc n) l) (omega arith))
-    (λ g. rw (le-leb size (moved + suc n) g) (omega arith))
-    (lt-or-ge (moved + suc n) size)
-
-again-less : (size moved tries : ℕ) (pause : Bool) → left size (again moved tries pause) < (size - moved) * suc patience + suc tries
-again-less size moved zero pause = omega arith
-again-less size moved (suc tries) pause = omega arith
+start-going size = further-is (Going size) size 0 (λ g. omega arith) (λ l. l)
 
 next-less : (size moved tries : ℕ) (pause : Bool) (a : Answer) → Room size moved a → left size (next size moved tries a) < left size (Open moved tries pause)
 next-less size moved tries pause (Moved zero) r = omega arith
-next-less size moved tries pause (Moved (suc n)) r = further-less size moved n tries (r .room)
-next-less size moved tries pause Interrupted r = again-less size moved tries _
-next-less size moved tries pause Unready r = again-less size moved tries _
+next-less size moved tries pause (Moved (suc n)) r =
+    further-is (λ t. left size t < left size (Open moved tries pause)) size (moved + suc n) (λ g. omega arith) (λ l. omega (arith, r .room))
+next-less size moved zero pause (Again wait) r = omega arith
+next-less size moved (suc tries) pause (Again wait) r = omega arith
 next-less size moved tries pause Broken r = omega arith
 
 -- ---- the transfer t that an answer a leads to, for which n bytes had room: s was open, and so many are wanted

@@ -6,7 +6,7 @@ use mathlib.Core.List.{List, [], _∷_}
 use lib.Dec.{leb, eqb}
 use lib.IntN.{ℤ, pos, negsuc}
 use Rattle.transfers.specs.declared.Answer.{Answer}
-use Rattle.transfers.specs.declared.Answer.the-variants.{Moved, Interrupted, Unready, Broken}
+use Rattle.transfers.specs.declared.Answer.the-variants.{Moved, Again, Broken}
 use lib.ListN.{length, take, getD}
 use Rattle.transfers.specs.declared.Transfer.{Transfer}
 use Rattle.transfers.specs.declared.Transfer.the-variants.{Open, Ended, Full, Failed}
@@ -15,7 +15,7 @@ use Rattle.transfers.specs.declared.Transfer.the-variants.{Open, Ended, 
 
 -- errno after a call that answered -1: EINTR is 4, EAGAIN is 11
 abbrev pub failure : (error : ℤ) → Answer
-failure (pos e) = cond (eqb e 4) Interrupted (cond (eqb e 11) Unready Broken)
+failure (pos e) = cond (eqb e 4) (Again false) (cond (eqb e 11) (Again true) Broken)
 failure (negsuc e) = Broken
 
 abbrev pub answer : (got error : ℤ) → Answer
@@ -28,21 +28,16 @@ answer (negsuc n) error = failure error
 abbrev pub patience : ℕ
 patience = 1000
 
--- a call moved nothing: there is another, with or without a pause before it, while there is patience
-abbrev pub again : (moved tries : ℕ) (pause : Bool) → Transfer
-again moved zero pause = Failed
-again moved (suc tries) pause = Open moved tries pause
-
 -- `moved` of `size` bytes are moved
 abbrev pub further : (size moved : ℕ) → Transfer
 further size moved = cond (leb size moved) (Full moved) (Open moved patience false)
 
--- a call that moves no byte and does not fail has met the end
+-- a call that moves no byte and does not fail has met the end; one that may be made again is, while there is patience
 abbrev pub next : (size moved tries : ℕ) → Answer → Transfer
 next size moved tries (Moved zero) = Ended moved
 next size moved tries (Moved (suc n)) = further size (moved + suc n)
-next size moved tries Interrupted = again moved tries false
-next size moved tries Unready = again moved tries true
+next size moved zero (Again pause) = Failed
+next size moved (suc tries) (Again pause) = Open moved tries pause
 next size moved tries Broken = Failed
 
 -- ---- ranges
@@ -54,8 +49,7 @@ pub record Place (moved : ℕ) (bytes : List ℕ) : Type 0 where
 -- a call moves no more bytes than there is room for
 abbrev pub bytesOf : Answer → ℕ
 bytesOf (Moved n) = n
-bytesOf Interrupted = 0
-bytesOf Unready = 0
+bytesOf (Again pause) = 0
 bytesOf Broken = 0
 
 pub record Room (size moved : ℕ) (a : Answer) : Type 0 where
@@ -71,12 +65,15 @@ Over Failed size = Unit {0}
 -- ---- a row of calls, whatever they answer
 
 -- a transfer that is over stays as it is
+abbrev pub stepped : (size : ℕ) → Transfer → Answer → Transfer
+stepped size (Open moved tries pause) a = next size moved tries a
+stepped size (Ended moved) a = Ended moved
+stepped size (Full moved) a = Full moved
+stepped size Failed a = Failed
+
 unfoldable pub run : (size : ℕ) → Transfer → List Answer → Transfer
 run size t [] = t
-run size (Open moved tries pause) (a ∷ more) = run size (next size moved tries a) more
-run size (Ended moved) (a ∷ more) = Ended moved
-run size (Full moved) (a ∷ more) = Full moved
-run size Failed (a ∷ more) = Failed
+run size t (a ∷ more) = run size (stepped size t a) more
 
 -- the bytes that they moved
 abbrev pub total : List Answer → ℕ
@@ -87,8 +84,7 @@ total (a ∷ more) = bytesOf a + total more
 abbrev pub Sound : List Answer → Type 0
 Sound [] = Unit {0}
 Sound (Moved n ∷ more) = Sound more
-Sound (Interrupted ∷ more) = Sound more
-Sound (Unready ∷ more) = Sound more
+Sound (Again pause ∷ more) = Sound more
 Sound (Broken ∷ more) = ⊥
 
 -- the first of them moved n bytes, behind those that were moved before, and the next met the end

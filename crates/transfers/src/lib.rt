@@ -2,7 +2,7 @@
 // The kit's `io` counts a call that fails or that a signal interrupts as the end: here such a call is tried again, or the whole fails.
 ghost use mathlib.Core.Path.{_≡_};
 ghost use lib.ListN.{length};
-ghost use Rattle.transfers.specs.Transfers.{failure, answer, again, further, next, Place, Room, Over};
+ghost use Rattle.transfers.specs.Transfers.{answer, further, next, Place, Room, Over};
 use libc::EAGAIN;
 use libc::EINTR;
 use libc::types::timespec;
@@ -11,10 +11,8 @@ use libc::types::timespec;
 pub enum Answer {
     // So many bytes were moved.
     Moved(usize),
-    // A signal came before any was.
-    Interrupted,
-    // None can be moved yet.
-    Unready,
+    // None was: a signal came before, or none can be moved yet, and then there is a pause before the next call.
+    Again { pause: bool },
     Broken,
 }
 
@@ -38,39 +36,20 @@ impl Transfer {
     pub const PATIENCE: usize = 1000;
 }
 
-fn failure_of(error: i32) -> Answer
-    ensures { λ a. ⌜ a ≡ failure error ⌝ }
-{
-    if error == EINTR {
-        return Answer::Interrupted;
-    }
-    if error == EAGAIN {
-        return Answer::Unready;
-    }
-    Answer::Broken
-}
-
 // `error` is errno, which counts only after a call that answered -1.
 fn answer_of(got: isize, error: i32) -> Answer
     ensures { λ a. ⌜ a ≡ answer got error ⌝ }
 {
-    if got < 0 {
-        return failure_of(error);
+    if got >= 0 {
+        return Answer::Moved(got as usize);
     }
-    Answer::Moved(got as usize)
-}
-
-fn tried_again(moved: usize, tries: usize, pause: bool) -> Transfer
-    ensures { λ t. ⌜ t ≡ again moved tries pause ⌝ }
-{
-    if tries == 0 {
-        return Transfer::Failed;
+    if error == EINTR {
+        return Answer::Again { pause: false };
     }
-    Transfer::Open {
-        moved,
-        tries: tries - 1,
-        pause,
+    if error == EAGAIN {
+        return Answer::Again { pause: true };
     }
+    Answer::Broken
 }
 
 fn moved_further(size: usize, moved: usize) -> Transfer
@@ -97,8 +76,16 @@ fn after(size: usize, moved: usize, tries: usize, answer: Answer) -> Transfer
             }
             moved_further(size, moved + n)
         }
-        Answer::Interrupted => tried_again(moved, tries, false),
-        Answer::Unready => tried_again(moved, tries, true),
+        Answer::Again { pause } => {
+            if tries == 0 {
+                return Transfer::Failed;
+            }
+            Transfer::Open {
+                moved,
+                tries: tries - 1,
+                pause,
+            }
+        }
         Answer::Broken => Transfer::Failed,
     }
 }
@@ -141,22 +128,19 @@ pub fn read_full(fd: i32, buffer: &mut [u8]) -> Transfer
     let size = buffer.len();
     let mut transfer = moved_further(size, 0);
     loop {
-        match transfer {
-            Transfer::Open {
-                moved,
-                tries,
-                pause,
-            } => {
-                if pause {
-                    wait();
-                }
-                let answer = read_more(fd, buffer, moved);
-                transfer = after(size, moved, tries, answer);
-            }
-            Transfer::Ended(moved) => return Transfer::Ended(moved),
-            Transfer::Full(moved) => return Transfer::Full(moved),
-            Transfer::Failed => return Transfer::Failed,
+        let Transfer::Open {
+            moved,
+            tries,
+            pause,
+        } = transfer
+        else {
+            return transfer;
+        };
+        if pause {
+            wait();
         }
+        let answer = read_more(fd, buffer, moved);
+        transfer = after(size, moved, tries, answer);
     }
 }
 
@@ -167,21 +151,18 @@ pub fn write_full(fd: i32, bytes: &[u8]) -> Transfer
     let size = bytes.len();
     let mut transfer = moved_further(size, 0);
     loop {
-        match transfer {
-            Transfer::Open {
-                moved,
-                tries,
-                pause,
-            } => {
-                if pause {
-                    wait();
-                }
-                let answer = write_more(fd, bytes, moved);
-                transfer = after(size, moved, tries, answer);
-            }
-            Transfer::Ended(moved) => return Transfer::Ended(moved),
-            Transfer::Full(moved) => return Transfer::Full(moved),
-            Transfer::Failed => return Transfer::Failed,
+        let Transfer::Open {
+            moved,
+            tries,
+            pause,
+        } = transfer
+        else {
+            return transfer;
+        };
+        if pause {
+            wait();
         }
+        let answer = write_more(fd, bytes, moved);
+        transfer = after(size, moved, tries, answer);
     }
 }

@@ -1,5 +1,5 @@
 -- The test is the definition's, part by part.
-use mathlib.Core.Path.{refl}
+use Rattle.arithmetic.proofs.Basics.{refl}
 use Rattle.rules.specs.Refusals.{badLength}
 use Rattle.checking.proofs.bad_length.Statement.{statement}
 use Rattle.checking.proofs.bad_length.Tie as tie

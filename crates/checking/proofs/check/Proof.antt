@@ -1,9 +1,8 @@
 -- A refused length, or the answer for the records.
-use mathlib.Core.Path.{sym, _∙_}
+use Rattle.arithmetic.proofs.Basics.{sym, _∙_, needs}
 use Rattle.rules.specs.Refusals.{check}
 use Rattle.checking.specs.Check.{checkedOf}
 use Rattle.checking.proofs.Laws.{whole-ranges, whole-checked}
-use borrow.Author.Needs.{needs}
 use Rattle.checking.proofs.check.Statement.{statement}
 use Rattle.checking.proofs.check.Tie as tie
 
@@ -25,9 +24,4 @@ pub check-spec : {M : Type 1} → statement M
 check-spec =
     tie.close
     (tie.spec
-    (λ c κs. search needs)
-    (λ c κs. search needs)
-    length-refused
-    (λ c κs. search needs)
-    ranges
-    answered)
+    (λ c κs. search needs) (λ c κs. search needs) length-refused (λ c κs. search needs) ranges answered)

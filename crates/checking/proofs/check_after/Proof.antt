@@ -1,8 +1,8 @@
 -- One pass over the records, up to the first that has a fault.
-use Prim.Native.Nat.{_-_}
+use Rattle.arithmetic.proofs.Basics.{_-_, needs}
 use Rattle.rules.specs.Sheet.{pollutants, records}
+use Rattle.faults.proofs.Agreement.{limits-fit}
 use Rattle.checking.proofs.Progress.{Progress, begin, room, faulty, next, done}
-use borrow.Author.Needs.{needs}
 use Rattle.checking.proofs.check_after.Statement.{statement}
 use Rattle.checking.proofs.check_after.Tie as tie
 
@@ -34,16 +34,9 @@ pub check-after-spec : {M : Type 1} → statement M
 check-after-spec =
     tie.close
     (tie.spec
-    Inv-loop
-    μ-loop
-    (λ c. begin _ _ _ (c .before .pre .limits))
+    Inv-loop μ-loop
+    (λ c. begin _ (c .before .pre))
     (λ c κs. search needs)
-    (λ c κs. search needs)
-    (λ c. search needs)
-    (λ c. search needs)
-    refused
-    room-for-one
-    (λ c. search needs)
-    (λ c. search needs)
-    one-further
+    (λ c κs. limits-fit (c .before .before .loop .inv .agrees))
+    (λ c. search needs) (λ c. search needs) refused room-for-one (λ c. search needs) (λ c. search needs) one-further
     (λ c. done _ _ (c .before .loop .inv) (c .loop-test .left)))

@@ -1,9 +1,6 @@
 -- The sheet's own refusal, that of the length of both, or the answer for the records after what the sheet says.
-use native.Mathlib.Omega.{arith}
-use mathlib.Core.Path.{sym, _∙_}
-use Rattle.accepted.proofs.Faultless.{length-fine}
+use Rattle.arithmetic.proofs.Basics.{sym, _∙_, needs}
 use Rattle.checking.proofs.Laws.{joined-refused, joined-bad, joined-ranges, joined-after}
-use borrow.Author.Needs.{needs}
 use Rattle.checking.proofs.check_joined.Statement.{statement}
 use Rattle.checking.proofs.check_joined.Tie as tie
 
@@ -19,7 +16,6 @@ ranges c κs =
     let a = k .before .before .before .before .before .args in
     let h = sym (c .before .bad-length .ensures) ∙ c .if1 .left in
     joined-ranges (a .sheet .now) (a .more .now) (k .before .before .so-far .ensures) (k .checked .given .1) h
-    (omega (arith, length-fine _ _ h .1 .1))
 
 answered : tie.Need-returns-3
 answered c =
@@ -31,13 +27,6 @@ pub check-joined-spec : {M : Type 1} → statement M
 check-joined-spec =
     tie.close
     (tie.spec
-    (λ c κs. search needs)
-    (λ c. search needs)
-    (λ c. search needs)
+    (λ c κs. search needs) (λ c. search needs) (λ c. search needs)
     (λ c. joined-refused _ _ (c .before .before .so-far .ensures) (c .enum-told .given .1))
-    (λ c. search needs)
-    (λ c κs. search needs)
-    (λ c κs. search needs)
-    length-refused
-    ranges
-    answered)
+    (λ c. search needs) (λ c κs. search needs) (λ c κs. search needs) length-refused ranges answered)

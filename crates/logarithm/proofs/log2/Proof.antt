@@ -1,24 +1,26 @@
--- `log2` meets its contract: the code's leading zeros place the top bit as the definition's digits do.
-use mathlib.Core.Path.{sym, _∙_}
-use native.Mathlib.Omega.{arith}
-use lib.Count.{leadingZeros}
+-- `log2` meets its contract.
+use Rattle.arithmetic.proofs.Basics.{_-_, sym, inl, inr, arith, needs}
 use Rattle.rules.specs.Logarithm.{squarings}
-use Rattle.logarithm.proofs.Laws.{Placed, placed, ranges-placed, g-none, g-past, g-placed}
+use Rattle.logarithm.proofs.Bounds.{g-outside, At, at-start, at-next, at-fits, at-end}
 use Rattle.logarithm.proofs.log2.Statement.{statement}
 use Rattle.logarithm.proofs.log2.Tie as tie
 
--- what is known of m past the two tests
-inside : (c : tie.Else2) → Placed (c .before .before .args .m) (leadingZeros 32 (c .before .before .args .m))
-inside c = placed (c .before .before .args .m) (omega arith) (omega arith)
+abbrev Inv-loop : tie.InvT-loop
+Inv-loop m x₀ counter₀ x counter = At x₀ counter x
+
+abbrev μ-loop : tie.MeasureT-loop
+μ-loop m x₀ counter₀ x counter = squarings - counter
 
 pub log2-spec : {M : Type 1} → statement M
 log2-spec =
     tie.close
     (tie.spec
-    (λ c. sym (g-none squarings (c .before .args .m) (c .if1 .taken)))
-    (λ c. sym (g-past squarings (c .before .before .args .m) (c .if2 .taken)))
-    (λ c. omega (arith, inside c))
-    (λ c. omega (arith, inside c))
-    (λ c. omega (arith, inside c))
-    (λ c κs. ranges-placed (omega arith) (inside c))
-    (λ c. c .squared .ensures ∙ g-placed squarings (omega arith) (omega arith) (inside (c .before))))
+    Inv-loop μ-loop
+    (λ c. sym (g-outside squarings (c .before .args .m) (inl (c .if1 .taken))))
+    (λ c. sym (g-outside squarings (c .before .before .args .m) (inr (c .if2 .taken))))
+    (λ c κs. search needs)
+    (λ c. at-start (omega arith) (c .start .ensures))
+    (λ c κs. at-fits (c .before .loop .inv) (omega arith))
+    (λ c. omega arith) (λ c. omega arith)
+    (λ c. at-next (c .before .before .loop .inv) (omega arith) (c .squared .ensures))
+    (λ c. at-end (c .before .loop .inv) (omega arith) (omega arith) (c .before .before .start .ensures)))

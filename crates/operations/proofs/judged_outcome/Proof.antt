@@ -1,13 +1,7 @@
 -- A refusal stays as it is.
-use borrow.Author.Needs.{needs}
+use Rattle.arithmetic.proofs.Basics.{needs}
 use Rattle.operations.proofs.judged_outcome.Statement.{statement}
 use Rattle.operations.proofs.judged_outcome.Tie as tie
 
 pub judged-outcome-spec : {M : Type 1} → statement M
-judged-outcome-spec =
-    tie.close
-    (tie.spec
-    (λ c. search needs)
-    (λ c. search needs)
-    (λ c. cc)
-    (λ c. search needs))
+judged-outcome-spec = tie.close (tie.spec (λ c. search needs) (λ c. search needs) (λ c. search needs) (λ c. cc))

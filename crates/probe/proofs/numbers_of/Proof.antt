@@ -1,7 +1,5 @@
 -- `numbers_of` meets its contract: the fields of each step.
-use mathlib.Core.Path.{sym, ap}
-use borrow.Author.Needs.{needs}
-use Rattle.probe.specs.Walked.{numbersOf}
+use Rattle.arithmetic.proofs.Basics.{needs}
 use Rattle.probe.proofs.numbers_of.Statement.{statement}
 use Rattle.probe.proofs.numbers_of.Tie as tie
 
@@ -9,13 +7,9 @@ pub numbers-of-spec : {M : Type 1} → statement M
 numbers-of-spec =
     tie.close
     (tie.spec
+    (λ c. search needs) (λ c. search needs) (λ c. search needs) (λ c. search needs) (λ c. search needs)
+    (λ c. rw (c .before .step .given .1))
+    (λ c. rw (c .before .step2 .given .1))
     (λ c. search needs)
-    (λ c. search needs)
-    (λ c. search needs)
-    (λ c. search needs)
-    (λ c. search needs)
-    (λ c. sym (ap numbersOf (c .before .step .given .1)))
-    (λ c. sym (ap numbersOf (c .before .step2 .given .1)))
-    (λ c. search needs)
-    (λ c. sym (ap numbersOf (c .before .step3 .given .1)))
+    (λ c. rw (c .before .step3 .given .1))
     (λ c. search needs))

@@ -1,7 +1,5 @@
 -- The length of the part that evidence hands back, and its code.
-use mathlib.Core.Path.{ap}
-use lib.ListN.{length}
-use borrow.Author.Needs.{needs}
+use Rattle.arithmetic.proofs.Basics.{ap, length, needs}
 use Rattle.probe.proofs.probe_evidence.Statement.{statement}
 use Rattle.probe.proofs.probe_evidence.Tie as tie
 

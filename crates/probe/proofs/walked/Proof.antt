@@ -1,38 +1,34 @@
--- `walked` meets its contract: after i moves the reader stands at record i, or at the end.
-use Prim.Native.Nat.{_-_, _≤_}
-use mathlib.Core.Path.{_≡_, sym, ap, _∙_}
-use native.Mathlib.Omega.{arith}
-use borrow.Author.Needs.{needs}
+-- `walked` meets its contract: the reader stands at a record up to k, or at the end.
+use Rattle.arithmetic.proofs.Basics.{ℕ, _+_, _-_, _≤_, _<_, arith, _≡_, ap, _∙_, List, length, needs, lt-ltb}
+use Rattle.rules.specs.Sheet.{pollutants, records}
 use Rattle.reading.specs.declared.Turn.{Turn}
-use Rattle.probe.specs.Walked.{reached}
-use Rattle.probe.proofs.Walking.{at-start, at-end, moved-on}
+use Rattle.reading.specs.Steps.{leftAt, nextAt, turnAt}
+use Rattle.probe.specs.Entries.{reached}
 use Rattle.probe.proofs.walked.Statement.{statement}
 use Rattle.probe.proofs.walked.Tie as tie
 
 abbrev Inv-loop : tie.InvT-loop
-Inv-loop sheet k at₀ i₀ at i = (i ≤ k) × (at ≡ reached sheet i)
+Inv-loop sheet k at₀ at = (at ≤ k) × (at ≤ length (records pollutants sheet))
 
 abbrev μ-loop : tie.MeasureT-loop
-μ-loop sheet k at₀ i₀ at i = k - i
+μ-loop sheet k at₀ at = k - at
+
+-- where records are left, the next number is one more
+moved-on : (b : List ℕ) (at : ℕ) {t : Turn} → t ≡ turnAt b at → (t .left ≡ 0 → ⊥) → (t .next ≡ at + 1) × (at < length (records pollutants b))
+unfolding leftAt nextAt
+moved-on b at e h =
+    let more : at < length (records pollutants b) = omega (arith, ap (λ (x : Turn). x .left) e) in
+    (ap (λ (x : Turn). x .next) e ∙ (rw (lt-ltb at (length (records pollutants b)) more)), more)
 
 pub walked-spec : {M : Type 1} → statement M
+unfolding reached leftAt
 walked-spec =
     tie.close
     (tie.spec
-    Inv-loop
-    μ-loop
-    (λ c. (omega arith, sym (at-start _)))
+    Inv-loop μ-loop
+    (λ c. (omega arith, omega arith))
     (λ c κs. search needs)
-    (λ c.
-    let t = c .before .before in
-    let l = t .before .before .loop in
-    at-end _ (l .at) (l .i) _ (l .inv .1) (sym (ap (λ (x : Turn). x .left) (t .turn-at .ensures)) ∙ c .if1 .taken) (omega arith))
-    (λ c. omega arith)
-    (λ c. omega arith)
-    (λ c.
-    let t = c .before .before in
-    let l = t .before .before .loop in
-    (omega arith, ap (λ (x : Turn). x .next) (t .turn-at .ensures) ∙ moved-on _ (l .at) (l .i) (l .inv .1) (λ z. c .if1 .left (ap (λ (x : Turn). x .left) (t .turn-at .ensures) ∙ z))))
-    (λ c.
-    let e : c .before .loop .i ≡ c .before .before .before .args .k = omega arith in
-    c .before .loop .inv .1 ∙ ap (reached _) e))
+    (λ c. omega (arith, ap (λ (x : Turn). x .left) (c .before .before .turn-at .ensures)))
+    (λ c. omega (arith, moved-on _ _ (c .before .before .turn-at .ensures) (c .if1 .left)))
+    (λ c. omega (arith, moved-on _ _ (c .before .before .turn-at .ensures) (c .if1 .left)))
+    (λ c. omega arith))

@@ -1,8 +1,7 @@
 -- The records from a number on are counted by the difference, 0 from the end on.
-use native.Mathlib.Omega.{arith}
+use Rattle.arithmetic.proofs.Basics.{arith, needs}
 use Rattle.accepted.proofs.Records.{length-records}
 use Rattle.rules.specs.Sheet.{pollutants}
-use borrow.Author.Needs.{needs}
 use Rattle.reading.specs.Steps.{leftAt}
 use Rattle.reading.proofs.left_at.Statement.{statement}
 use Rattle.reading.proofs.left_at.Tie as tie

@@ -1,7 +1,8 @@
--- Before the end the number after is one more.
-use borrow.Author.Needs.{needs}
+-- `next_at` meets its contract: before the end the number after is one more.
+use Rattle.arithmetic.proofs.Basics.{refl, needs, lt-ltb, le-ltb}
+use Rattle.rules.specs.Sheet.{pollutants}
+use Rattle.accepted.proofs.Records.{length-records}
 use Rattle.reading.specs.Steps.{nextAt}
-use Rattle.reading.proofs.Whole.{has-record, past-the-end}
 use Rattle.reading.proofs.next_at.Statement.{statement}
 use Rattle.reading.proofs.next_at.Tie as tie
 
@@ -11,5 +12,5 @@ next-at-spec =
     tie.close
     (tie.spec
     (λ c. search needs)
-    (λ c. let a = c .before .args in rw (has-record (a .bytes .now) (a .at) (c .if1 .taken)))
-    (λ c. let a = c .before .args in rw (past-the-end (a .bytes .now) (a .at) (c .if1 .left))))
+    (λ c. rw (length-records pollutants (c .before .args .bytes .now), lt-ltb _ _ (c .if1 .taken)) refl)
+    (λ c. rw (length-records pollutants (c .before .args .bytes .now), le-ltb _ _ (c .if1 .left)) refl))

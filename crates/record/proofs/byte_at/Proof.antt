@@ -1,7 +1,5 @@
 -- Past the record's end, 0.
-use mathlib.Core.Path.{sym}
-use lib.ListN.{List·getD-eq-default}
-use borrow.Author.Needs.{needs}
+use Rattle.arithmetic.proofs.Basics.{sym, List·getD-eq-default, needs}
 use Rattle.record.proofs.byte_at.Statement.{statement}
 use Rattle.record.proofs.byte_at.Tie as tie
 
@@ -9,6 +7,5 @@ pub byte-at-spec : {M : Type 1} → statement M
 byte-at-spec =
     tie.close
     (tie.spec
-    (λ c κs. search needs)
-    (λ c. search needs)
+    (λ c κs. search needs) (λ c. search needs)
     (λ c. (sym (List·getD-eq-default (c .before .before .args .r .now) 0 (c .if1 .left)), search needs)))

@@ -1,6 +1,6 @@
 -- The deviation is the number at the bytes that document 01 names.
+use Rattle.arithmetic.proofs.Basics.{needs}
 use Rattle.rules.specs.Sheet.{deviation}
-use borrow.Author.Needs.{needs}
 use Rattle.record.proofs.deviation_of.Statement.{statement}
 use Rattle.record.proofs.deviation_of.Tie as tie
 

@@ -1,6 +1,6 @@
 -- The kind is the byte that document 01 names.
+use Rattle.arithmetic.proofs.Basics.{needs}
 use Rattle.rules.specs.Sheet.{kind}
-use borrow.Author.Needs.{needs}
 use Rattle.record.proofs.kind_of.Statement.{statement}
 use Rattle.record.proofs.kind_of.Tie as tie
 

@@ -1,6 +1,6 @@
 -- The measurement is the number at the bytes that document 01 names.
+use Rattle.arithmetic.proofs.Basics.{needs}
 use Rattle.rules.specs.Sheet.{measurement}
-use borrow.Author.Needs.{needs}
 use Rattle.record.proofs.measurement_of.Statement.{statement}
 use Rattle.record.proofs.measurement_of.Tie as tie
 

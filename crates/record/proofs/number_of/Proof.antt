@@ -1,6 +1,6 @@
 -- The number is the byte that document 01 names.
+use Rattle.arithmetic.proofs.Basics.{needs}
 use Rattle.rules.specs.Sheet.{number}
-use borrow.Author.Needs.{needs}
 use Rattle.record.proofs.number_of.Statement.{statement}
 use Rattle.record.proofs.number_of.Tie as tie
 

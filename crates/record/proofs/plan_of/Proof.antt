@@ -1,6 +1,6 @@
 -- The plan is the byte that document 01 names.
+use Rattle.arithmetic.proofs.Basics.{needs}
 use Rattle.rules.specs.Sheet.{plan}
-use borrow.Author.Needs.{needs}
 use Rattle.record.proofs.plan_of.Statement.{statement}
 use Rattle.record.proofs.plan_of.Tie as tie
 

@@ -1,6 +1,5 @@
 -- The byte that is read is the definition's, since the record has it.
-use native.Mathlib.Omega.{arith}
-use borrow.Author.Needs.{needs}
+use Rattle.arithmetic.proofs.Basics.{arith, needs}
 use Rattle.record.proofs.present.Statement.{statement}
 use Rattle.record.proofs.present.Tie as tie
 

@@ -1,6 +1,5 @@
 -- The part is a record's bytes, behind those of k records.
-use native.Mathlib.Nat.{add-sub-cancel-left}
-use borrow.Author.Needs.{needs}
+use Rattle.arithmetic.proofs.Basics.{add-sub-cancel-left, needs}
 use Rattle.record.proofs.record_at.Statement.{statement}
 use Rattle.record.proofs.record_at.Tie as tie
 
@@ -8,9 +7,5 @@ pub record-at-spec : {M : Type 1} → statement M
 record-at-spec =
     tie.close
     (tie.spec
-    (λ c. search needs)
-    (λ c. search needs)
-    (λ c. search needs)
-    (λ c. search needs)
-    (λ c. search needs)
+    (λ c. search needs) (λ c. search needs) (λ c. search needs) (λ c. search needs) (λ c. search needs)
     (λ c. rw add-sub-cancel-left))

@@ -1,36 +1,43 @@
 -- `evidence` meets its contract: the part lies in the sheet, and part and code are the definitions'.
-use mathlib.Core.Path.{refl, sym}
-use native.Mathlib.Omega.{arith}
-use lib.Seq.{length-take-le}
-use Rattle.series.proofs.Judging.{valid, evidence-refused, code-refused, head-few, evidence-fits, evidence-accepted}
-use borrow.Author.Needs.{needs}
+use Rattle.arithmetic.proofs.Basics.{sym, ap, _∙_, arith, length-take-le, needs}
+use Rattle.rules.specs.Operations.{code}
+use Rattle.checking.specs.Check.{Valid}
+use Rattle.series.proofs.Judging.{valid, refused-so, evidence-refused, evidence-fits, evidence-part, evidence-whole}
 use Rattle.series.proofs.evidence.Statement.{statement}
 use Rattle.series.proofs.evidence.Tie as tie
+
+accepted : (c : tie.After-known-told) → let k = c .before .before .before in Valid (k .before .before .args .bytes .now) (c .before .checked .given .0 .0)
+accepted c = valid _ (c .before .before .before .check .ensures) (c .before .checked .given .1)
+
+returns : tie.Need-returns
+returns c =
+    let k = c .before .before .before in
+    let h = refused-so _ (k .before .before .check .ensures) (k .enum-told .given .1) (c .before .before .refusal .ensures) in
+    (evidence-refused _ h, c .before .code .ensures ∙ sym (ap code h))
+
+slice-aggregate-result-2 : tie.Need-slice-aggregate-result-2
+slice-aggregate-result-2 c =
+    let n = c .before .before .before in
+    sym (length-take-le _ _ (evidence-fits (accepted (n .before .before)) (n .before .judgement-of .ensures) (n .numbers .ensures)))
+
+returns-2 : tie.Need-returns-2
+returns-2 c =
+    let i = c .before .before in
+    let n = i .before in
+    let v = accepted (n .before .before) in
+    (evidence-part v (n .before .judgement-of .ensures) (n .numbers .ensures) (i .if1 .taken), sym (ap code (v .accepts)))
+
+returns-3 : tie.Need-returns-3
+returns-3 c =
+    let n = c .before in
+    let v = accepted (n .before .before) in
+    (evidence-whole v (n .before .judgement-of .ensures) (n .numbers .ensures) (c .if1 .left), sym (ap code (v .accepts)))
 
 pub evidence-spec : {M : Type 1} → statement M
 evidence-spec =
     tie.close
     (tie.spec
-    (λ c κs. search needs)
-    (λ c. search needs)
-    (λ c. search needs)
-    (λ c κs. search needs)
-    (λ c κs. search needs)
+    (λ c κs. search needs) (λ c. search needs) (λ c. search needs) (λ c κs. search needs) (λ c κs. search needs)
     (λ c. sym (length-take-le _ (c .before .before .before .before .before .before .before .args .bytes .now) (omega arith)))
-    (λ c.
-    let k = c .before .before .before in
-    let e = k .before .before .check .ensures in
-    let t = k .enum-told .given .1 in
-    (evidence-refused _ e t, rw (c .before .code .ensures, c .before .before .refusal .ensures, t) (code-refused _ e t)))
-    (λ c κs. valid _ (c .before .before .before .check .ensures) (c .before .checked .given .1))
-    (λ c κs.
-    let v = valid _ (c .before .before .before .before .check .ensures) (c .before .before .checked .given .1) in
-    record { few = head-few v (c .judgement-of .result) (c .judgement-of .ensures) })
-    (λ c.
-    let w = c .before .before in
-    let v = valid _ (w .before .before .before .before .check .ensures) (w .before .before .checked .given .1) in
-    sym (length-take-le _ _ (rw (c .before .evidence-length .ensures) (evidence-fits v (w .judgement-of .result) (w .judgement-of .ensures)))))
-    (λ c.
-    let w = c .before .before in
-    let v = valid _ (w .before .before .before .before .check .ensures) (w .before .before .checked .given .1) in
-    (rw (c .before .evidence-length .ensures) (evidence-accepted v (w .judgement-of .result) (w .judgement-of .ensures)), rw (v .accepts) refl)))
+    returns (λ c κs. accepted c) (λ c κs. search needs) (λ c. search needs) (λ c. search needs) (λ c. search needs)
+    (λ c. search needs) slice-aggregate-result-2 returns-2 returns-3)

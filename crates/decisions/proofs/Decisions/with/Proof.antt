@@ -1,5 +1,5 @@
 -- `Decisions::with` meets its contract.
-use borrow.Author.Needs.{needs}
+use Rattle.arithmetic.proofs.Basics.{needs}
 use Rattle.decisions.specs.Decisions.{decisionsWith}
 use Rattle.decisions.proofs.Decisions.with.Statement.{statement}
 use Rattle.decisions.proofs.Decisions.with.Tie as tie

@@ -1,7 +1,6 @@
 -- Each branch is one of the definition's.
-use Rattle.arithmetic.proofs.Chain.{chain, skip-is}
+use Rattle.arithmetic.proofs.Basics.{refl, eq-eqb, ne-eqb, needs}
 use Rattle.faults.specs.Faults.{badCauseBy}
-use borrow.Author.Needs.{needs}
 use Rattle.faults.proofs.fault.bad_cause.Statement.{statement}
 use Rattle.faults.proofs.fault.bad_cause.Tie as tie
 
@@ -11,6 +10,7 @@ bad-cause-spec =
     tie.close
     (tie.spec
     (λ c κs. search needs)
+    (λ c. rw (ne-eqb _ _ (c .if1 .taken), c .before .before .cause-of .ensures .0) refl)
     (λ c κs. search needs)
-    (λ c. search chain depth 9)
-    (λ c. skip-is _ _ _ (c .before .if1 .left) (cc)))
+    (λ c. rw (eq-eqb _ _ (c .before .before .if1 .left), ← c .before .is-gross .ensures, c .if2 .taken, c .before .before .before .before .cause-of .ensures .0) refl)
+    (λ c. rw (eq-eqb _ _ (c .before .before .if1 .left), ← c .before .is-gross .ensures, c .if2 .left, c .before .before .before .before .cause-of .ensures .0) refl))

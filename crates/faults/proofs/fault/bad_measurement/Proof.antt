@@ -1,6 +1,6 @@
 -- The test is the definition's, part by part.
+use Rattle.arithmetic.proofs.Basics.{refl, needs}
 use Rattle.faults.specs.Faults.{badMeasurementBy}
-use borrow.Author.Needs.{needs}
 use Rattle.faults.proofs.fault.bad_measurement.Statement.{statement}
 use Rattle.faults.proofs.fault.bad_measurement.Tie as tie
 
@@ -9,12 +9,5 @@ unfolding badMeasurementBy
 bad-measurement-spec =
     tie.close
     (tie.spec
-    (λ c κs. search needs)
-    (λ c κs. search needs)
-    (λ c κs. search needs)
-    (λ c κs. search needs)
-    (λ c κs. search needs)
-    (λ c κs. search needs)
-    (λ c κs. search needs)
-    (λ c κs. search needs)
-    (λ c. cc))
+    (λ c κs. search needs) (λ c κs. search needs) (λ c κs. search needs) (λ c κs. search needs)
+    (λ c. rw (c .bad-value4 .ensures, c .before .bad-value3 .ensures, c .before .before .bad-value2 .ensures, c .before .before .before .bad-value .ensures) refl))

@@ -1,7 +1,7 @@
 -- Each return is one of the definition's.
-use Rattle.arithmetic.proofs.Chain.{chain}
+use Rattle.arithmetic.proofs.Basics.{needs}
 use Rattle.faults.specs.Faults.{engineFault}
-use borrow.Author.Needs.{needs}
+use Rattle.faults.proofs.Chains.{chains}
 use Rattle.faults.proofs.fault.engine_fault.Statement.{statement}
 use Rattle.faults.proofs.fault.engine_fault.Tie as tie
 
@@ -10,14 +10,5 @@ unfolding engineFault
 engine-fault-spec =
     tie.close
     (tie.spec
-    (λ c κs. search needs)
-    (λ c. search chain depth 9)
-    (λ c κs. search needs)
-    (λ c. search chain depth 9)
-    (λ c κs. search needs)
-    (λ c. search chain depth 9)
-    (λ c κs. search needs)
-    (λ c. search chain depth 9)
-    (λ c κs. search needs)
-    (λ c. search chain depth 9)
-    (λ c. search chain depth 9))
+    (λ c. search chains depth 12) (λ c κs. search needs) (λ c. search chains depth 12) (λ c κs. search needs)
+    (λ c. search chains depth 12) (λ c. search chains depth 12) (λ c κs. search needs) (λ c. search chains depth 12) (λ c. search chains depth 12))

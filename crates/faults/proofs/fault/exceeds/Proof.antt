@@ -1,10 +1,7 @@
--- "2x > 3L" is compared without a product.
-use Rattle.faults.specs.Faults.{exceeds}
-use Rattle.faults.proofs.Limits.{half-more}
-use borrow.Author.Needs.{needs}
+-- The test is the definition's, part by part.
+use Rattle.arithmetic.proofs.Basics.{refl, needs}
 use Rattle.faults.proofs.fault.exceeds.Statement.{statement}
 use Rattle.faults.proofs.fault.exceeds.Tie as tie
 
 pub exceeds-spec : {M : Type 1} → statement M
-unfolding exceeds
-exceeds-spec = tie.close (tie.spec (λ c. search needs) (λ c. cc (half-more _ _)))
+exceeds-spec = tie.close (tie.spec (λ c. search needs) (λ c κs. search needs) (λ c. rw (c .measurement-of .ensures) refl))

@@ -1,7 +1,7 @@
 -- Each return is one of the definition's.
+use Rattle.arithmetic.proofs.Basics.{needs}
 use Rattle.arithmetic.proofs.Chain.{chain}
 use Rattle.faults.specs.Faults.{faultBy}
-use borrow.Author.Needs.{needs}
 use Rattle.faults.proofs.fault.fault_of.Statement.{statement}
 use Rattle.faults.proofs.fault.fault_of.Tie as tie
 
@@ -10,11 +10,5 @@ unfolding faultBy
 fault-of-spec =
     tie.close
     (tie.spec
-    (λ c κs. search needs)
-    (λ c κs. search needs)
-    (λ c κs. search needs)
-    (λ c κs. search needs)
-    (λ c. search chain depth 9)
-    (λ c. search chain depth 9)
-    (λ c. search chain depth 9)
-    (λ c. search chain depth 9))
+    (λ c κs. search needs) (λ c κs. search needs) (λ c κs. search needs) (λ c κs. search needs)
+    (λ c. search chain depth 9) (λ c. search chain depth 9) (λ c. search chain depth 9) (λ c. search chain depth 9))

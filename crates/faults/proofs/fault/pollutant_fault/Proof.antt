@@ -1,25 +1,20 @@
--- Each return is one of the definition's.
-use Rattle.arithmetic.proofs.Chain.{chain}
+-- The numbers are those of the record.
+use Rattle.arithmetic.proofs.Basics.{refl, needs}
 use Rattle.faults.specs.Faults.{pollutantFault}
-use borrow.Author.Needs.{needs}
 use Rattle.faults.proofs.fault.pollutant_fault.Statement.{statement}
 use Rattle.faults.proofs.fault.pollutant_fault.Tie as tie
 
-pub pollutant-fault-spec : {M : Type 1} → statement M
+returns : tie.Need-returns
 unfolding pollutantFault
+returns c =
+    let p = c .before .before .before in
+    let u = p .before .before in
+    rw (c .pollutant-by .ensures, c .before .deviation-of .ensures, c .before .before .limit-of .ensures, p .plan-of .ensures .0)
+    (rw (p .before .number-of .ensures .0, u .u32-at2 .ensures, u .before .u32-at .ensures, u .before .before .byte-at .ensures .0) refl)
+
+pub pollutant-fault-spec : {M : Type 1} → statement M
 pollutant-fault-spec =
     tie.close
     (tie.spec
-    (λ c κs. search needs)
-    (λ c. search chain depth 9)
-    (λ c κs. search needs)
-    (λ c. search chain depth 9)
-    (λ c κs. search needs)
-    (λ c. search chain depth 9)
-    (λ c κs. search needs)
-    (λ c. search chain depth 9)
-    (λ c κs. search needs)
-    (λ c. search chain depth 9)
-    (λ c κs. search needs)
-    (λ c. search chain depth 9)
-    (λ c. search chain depth 9))
+    (λ c κs. search needs) (λ c κs. search needs) (λ c κs. search needs) (λ c κs. search needs) (λ c κs. search needs)
+    (λ c κs. search needs) (λ c κs. search needs) (λ c κs. search needs) returns)

@@ -1,18 +1,16 @@
 -- The test is the definition's, part by part.
-use Rattle.faults.specs.Faults.{stopUnused}
-use borrow.Author.Needs.{needs}
+use Rattle.arithmetic.proofs.Basics.{refl, needs}
 use Rattle.faults.proofs.fault.stop_unused.Statement.{statement}
 use Rattle.faults.proofs.fault.stop_unused.Tie as tie
 
+returns : tie.Need-returns
+returns c =
+    let d = c .before .before .before in
+    rw (c .u32-at4 .ensures, c .before .u32-at3 .ensures, c .before .before .u32-at2 .ensures, d .u32-at .ensures)
+    (rw (d .before .u16-at .ensures .0, d .before .before .byte-at .ensures .0) refl)
+
 pub stop-unused-spec : {M : Type 1} → statement M
-unfolding stopUnused
 stop-unused-spec =
     tie.close
     (tie.spec
-    (λ c κs. search needs)
-    (λ c κs. search needs)
-    (λ c κs. search needs)
-    (λ c κs. search needs)
-    (λ c κs. search needs)
-    (λ c κs. search needs)
-    (λ c. cc))
+    (λ c κs. search needs) (λ c κs. search needs) (λ c κs. search needs) (λ c κs. search needs) (λ c κs. search needs) (λ c κs. search needs) returns)

@@ -1,5 +1,5 @@
 -- `nothing` meets its contract.
-use mathlib.Core.Path.{refl}
+use Rattle.arithmetic.proofs.Basics.{refl}
 use Rattle.lines.specs.Writing.{nothing}
 use Rattle.lines.proofs.Lines.nothing.Statement.{statement}
 use Rattle.lines.proofs.Lines.nothing.Tie as tie

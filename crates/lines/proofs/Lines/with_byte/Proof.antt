@@ -1,6 +1,5 @@
 -- `with_byte` meets its contract: there is room, or the lines stay as they are.
-use borrow.Author.Needs.{needs}
-use borrow.Author.Tests.{lt-ltb, le-ltb}
+use Rattle.arithmetic.proofs.Basics.{needs, lt-ltb, le-ltb}
 use Rattle.lines.specs.Writing.{withByte}
 use Rattle.lines.proofs.Lines.with_byte.Statement.{statement}
 use Rattle.lines.proofs.Lines.with_byte.Tie as tie
@@ -10,7 +9,6 @@ unfolding withByte
 with-byte-spec =
     tie.close
     (tie.spec
-    (λ c. search needs)
-    (λ c. search needs)
+    (λ c. search needs) (λ c. search needs)
     (λ c. simp (lt-ltb _ _ (c .if1 .taken)))
     (λ c. simp (le-ltb _ _ (c .if1 .left))))

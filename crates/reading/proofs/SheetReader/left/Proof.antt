@@ -1,5 +1,5 @@
 -- `left` hands the slice and the number on to `left_at`.
-use mathlib.Core.Path.{refl}
+use Rattle.arithmetic.proofs.Basics.{refl}
 use mir.Syntax.{tyInt, w64}
 use contract.Running.{givenOf}
 use denote.Plain.{uint-lawful}

@@ -1,5 +1,5 @@
 -- `read` hands the slice and the number on to `step_at`.
-use mathlib.Core.Path.{refl}
+use Rattle.arithmetic.proofs.Basics.{refl}
 use contract.Running.{givenOf}
 use denote.Enum.Laws as EL
 use Rattle.reading.specs.Steps.{stepAt}

@@ -1,5 +1,5 @@
 -- `Verdict::numbers` meets its contract.
-use borrow.Author.Needs.{needs}
+use Rattle.arithmetic.proofs.Basics.{needs}
 use Rattle.series.proofs.Verdict.numbers.Statement.{statement}
 use Rattle.series.proofs.Verdict.numbers.Tie as tie
 
@@ -7,21 +7,6 @@ pub numbers-spec : {M : Type 1} → statement M
 numbers-spec =
     tie.close
     (tie.spec
-    (λ c. search needs)
-    (λ c κs. search needs)
-    (λ c. search needs)
-    (λ c κs. search needs)
-    (λ c. search needs)
-    (λ c κs. search needs)
-    (λ c. search needs)
-    (λ c κs. search needs)
-    (λ c. search needs)
-    (λ c κs. search needs)
-    (λ c. search needs)
-    (λ c κs. search needs)
-    (λ c. cc)
-    (λ c. cc)
-    (λ c. cc)
-    (λ c. cc)
-    (λ c. cc)
-    (λ c. cc))
+    (λ c. search needs) (λ c κs. search needs) (λ c. search needs) (λ c κs. search needs) (λ c. search needs)
+    (λ c κs. search needs) (λ c. search needs) (λ c κs. search needs) (λ c. search needs) (λ c κs. search needs)
+    (λ c. search needs) (λ c κs. search needs) (λ c. cc) (λ c. cc) (λ c. cc) (λ c. cc) (λ c. cc) (λ c. cc))
