@@ -45,13 +45,14 @@
 
 #include <conformity.h>
 
+#include "number.h"
+
 #include <ctype.h>
 #include <errno.h>
 #include <fcntl.h>
 #include <poll.h>
 #include <signal.h>
 #include <stdio.h>
-#include <stdlib.h>
 #include <string.h>
 #include <sys/stat.h>
 #include <unistd.h>
@@ -129,31 +130,6 @@ static enum outcome trouble(const char *where, const char *why)
 }
 
 /* ---- Understanding a line: each answers what is wrong, or NULL ---- */
-
-static const char *read_number(const char *text, uint32_t *number)
-{
-    const char *end = text + strspn(text, "0123456789");
-    unsigned long long value;
-    if (*text == '\0') {
-        return "a number is missing";
-    }
-    if (*text == '+' || *text == '-') {
-        return "a number has a sign";
-    }
-    if (*end == '.' || *end == ',') {
-        return "a decimal point or comma: limits and measurements are whole thousandths";
-    }
-    if (*end != '\0') {
-        return "a number has other characters than digits";
-    }
-    errno = 0;
-    value = strtoull(text, NULL, 10);
-    if (errno != 0 || value > UINT32_MAX) {
-        return "a number is too large";
-    }
-    *number = (uint32_t)value;
-    return NULL;
-}
 
 /* 0 where no pollutant has this name. */
 static uint32_t pollutant_named(const char *name)

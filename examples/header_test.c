@@ -1,7 +1,7 @@
 /*
  * header_test - checks include/conformity.h: every constant, builder and reader against document
- * 01's bytes, and every refusal, in its order, through the library. Prints what fails, and last
- * a line `N passed, M failed`.
+ * 01's bytes, every refusal, in its order, through the library, and document 02's declared values.
+ * Prints what fails, and last a line `N passed, M failed`.
  */
 #include <conformity.h>
 
@@ -37,6 +37,7 @@ static void constants(void)
     CHECK(CONFORMITY_VALUE_MAX == 9999999);
     CHECK(CONFORMITY_DEVIATION_MAX == 4000000);
     CHECK(CONFORMITY_CAUSE_MAX == 65534);
+    CHECK(CONFORMITY_TESTS_MAX == 3);
     CHECK(CONFORMITY_REPORT_MARK == 16);
     CHECK(CONFORMITY_KIND_POLLUTANT == 1 && CONFORMITY_KIND_ENGINE == 2);
     CHECK(CONFORMITY_KIND_STOP == 3);
@@ -112,6 +113,12 @@ static void readers(void)
     CHECK(conformity_report_decision_engine(report, UINT32_MAX) == 0);
 }
 
+/* Of the numbers up to the greatest refusal's. */
+static int is_no_refusal(uint32_t number)
+{
+    return number >= 16 && number <= 19;
+}
+
 static void codes(void)
 {
     uint32_t number, other;
@@ -120,14 +127,18 @@ static void codes(void)
     CHECK(conformity_refusal_record(12 * 256 + 36) == 36);
     CHECK(conformity_refusal_number(15 * 256 + 255) == 15);
     CHECK(conformity_refusal_record(15 * 256 + 255) == 255);
-    /* A sentence of its own for each number: 0, 1 to 15, and one for all others. */
-    for (number = 0; number <= 16; number++) {
+    CHECK(CONFORMITY_REFUSED_TESTS == 20 && CONFORMITY_REFUSED_VALUE == 21);
+    CHECK(CONFORMITY_REFUSED_LATE_TEST == 22);
+    /* A sentence of its own for each number: 0, 1 to 15, 20 to 22, and one for all others. */
+    for (number = 0; number <= CONFORMITY_REFUSED_LATE_TEST; number++) {
         CHECK(conformity_refusal_text(number)[0] != '\0');
         for (other = 0; other < number; other++) {
-            CHECK(strcmp(conformity_refusal_text(number), conformity_refusal_text(other)) != 0);
+            CHECK((strcmp(conformity_refusal_text(number), conformity_refusal_text(other)) == 0) ==
+                  (is_no_refusal(number) && is_no_refusal(other)));
         }
     }
     CHECK(strcmp(conformity_refusal_text(16), conformity_refusal_text(UINT32_MAX)) == 0);
+    CHECK(strcmp(conformity_refusal_text(16), conformity_refusal_text(23)) == 0);
 }
 
 /* ---- The header and the library together ---- */
@@ -376,6 +387,59 @@ static void referral(void)
                  CONFORMITY_DECISION_OPEN);
 }
 
+/* ---- Declared values ---- */
+
+struct declared_case {
+    uint32_t declared;
+    uint32_t tests[4];
+    size_t count;
+    uint32_t number; /* of the refusal, or 0 and what is written */
+    uint32_t sum;
+    uint32_t divisor;
+};
+
+static const struct declared_case DECLARED_CASES[] = {
+    {100000, {104000}, 1, 0, 100000, 1},
+    {100000, {104001}, 1, 0, 0, 0},
+    {100000, {104001, 103999}, 2, 0, 100000, 1},
+    {100000, {104001, 104000}, 2, 0, 0, 0},
+    {100000, {104001, 104000, 90000}, 3, 0, 298001, 3},
+    {25, {26}, 1, 0, 25, 1},
+    {25, {27}, 1, 0, 0, 0},
+    {1, {CONFORMITY_VALUE_MAX, CONFORMITY_VALUE_MAX, CONFORMITY_VALUE_MAX}, 3, 0, 29999997, 3},
+    {CONFORMITY_VALUE_MAX, {CONFORMITY_VALUE_MAX}, 1, 0, CONFORMITY_VALUE_MAX, 1},
+    /* 20 before 21 before 22 */
+    {100000, {104000}, 0, CONFORMITY_REFUSED_TESTS, 0, 0},
+    {0, {0, 0, 0, 0}, 4, CONFORMITY_REFUSED_TESTS, 0, 0},
+    {0, {1}, 1, CONFORMITY_REFUSED_VALUE, 0, 0},
+    {CONFORMITY_VALUE_MAX + 1, {1}, 1, CONFORMITY_REFUSED_VALUE, 0, 0},
+    {100000, {CONFORMITY_VALUE_MAX + 1}, 1, CONFORMITY_REFUSED_VALUE, 0, 0},
+    {100000, {UINT32_MAX, UINT32_MAX, UINT32_MAX}, 3, CONFORMITY_REFUSED_VALUE, 0, 0},
+    {100000, {104000, 0}, 2, CONFORMITY_REFUSED_VALUE, 0, 0},
+    {100000, {104000, 1}, 2, CONFORMITY_REFUSED_LATE_TEST, 0, 0},
+    {100000, {104001, 103999, 1}, 3, CONFORMITY_REFUSED_LATE_TEST, 0, 0},
+};
+
+static void declared_values(void)
+{
+    const uint32_t unwritten = 0xa5a5a5a5u;
+    size_t i;
+    for (i = 0; i < sizeof DECLARED_CASES / sizeof DECLARED_CASES[0]; i++) {
+        const struct declared_case *c = &DECLARED_CASES[i];
+        uint32_t sum = unwritten, divisor = unwritten;
+        CHECK(conformity_declared(c->declared, c->tests, c->count, &sum, &divisor) ==
+              code_of(c->number, 0));
+        CHECK(sum == (c->number == 0 ? c->sum : unwritten));
+        CHECK(divisor == (c->number == 0 ? c->divisor : unwritten));
+    }
+    {
+        uint32_t sum = unwritten, divisor = unwritten;
+        CHECK(conformity_declared(100000, NULL, 0, &sum, &divisor) ==
+              code_of(CONFORMITY_REFUSED_TESTS, 0));
+        CHECK(sum == unwritten && divisor == unwritten);
+    }
+}
+
 int main(void)
 {
     constants();
@@ -388,6 +452,7 @@ int main(void)
     longest_sheet();
     verdicts();
     referral();
+    declared_values();
     printf("%u passed, %u failed\n", passed, failed);
     return failed == 0 ? 0 : 1;
 }

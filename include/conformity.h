@@ -38,13 +38,21 @@
  *
  * After four such engines this prints "pass at 4".
  *
- * POINTERS. Each pointer is followed by its length in bytes and must be valid
- * for that many bytes: readable, and writable where it is not const. Where the
- * length is 0 any pointer will do, also a null one, as an empty C++ vector's may
- * be. The record must not overlap the buffer, nor the output the sheet. Nothing
- * else may write to these bytes, or read those that the call writes, until it
- * returns. Within that, every input has a defined answer: any bytes, any
- * lengths, any `used`.
+ * A third function is about no sheet: in type approval it compares a declared
+ * carbon dioxide value with the tests of one vehicle (Directive 80/1268/EEC,
+ * Annex I, 6.5):
+ *
+ *     conformity_declared asks for another test, or gives the approval value
+ *
+ * POINTERS. Each pointer to several bytes or numbers is followed by how many they
+ * are, and must be valid for that many: readable, and writable where it is not
+ * const. Where there are none any pointer will do, also a null one, as an empty
+ * C++ vector's may be. `sum` and `divisor` each point to one number that can be
+ * read and written. What a call writes must not overlap anything else that it is
+ * given: the record not the buffer, the output not the sheet, `sum` and `divisor`
+ * neither each other nor the tests. Nothing else may write to these bytes, or read
+ * those that the call writes, until it returns. Within that, every input has a
+ * defined answer: any bytes, any numbers, any lengths, any `used`.
  *
  * THREADS. The library has no state, allocates nothing and keeps no pointer
  * past a call. Calls on separate memory may run at the same time.
@@ -69,9 +77,10 @@ extern "C" {
 #define CONFORMITY_REPORT_SIZE 20 /* bytes of a report */
 #define CONFORMITY_POLLUTANTS 4   /* measurements in an engine's record */
 
-#define CONFORMITY_VALUE_MAX 9999999     /* greatest limit or measurement; least 1 */
+#define CONFORMITY_VALUE_MAX 9999999     /* greatest limit, measurement, CO2 value; least 1 */
 #define CONFORMITY_DEVIATION_MAX 4000000 /* greatest deviation in plan 1; least 1 */
 #define CONFORMITY_CAUSE_MAX 65534       /* greatest cause of a gross emitter; least 1 */
+#define CONFORMITY_TESTS_MAX 3           /* most tests of a declared value; least 1 */
 
 /* ---- What a sheet says -------------------------------------------------- */
 
@@ -130,13 +139,13 @@ enum conformity_decision {
 /* ---- Refusals ----------------------------------------------------------- */
 
 /*
- * Both functions return 0 on success, and otherwise
+ * Each function returns 0 on success, and otherwise
  *
  *     refusal number * 256 + record
  *
- * where the record is counted from 0 and is 0 for refusals 1, 13, 14 and 15,
- * which name none. A sheet is refused for its first faulty record, and for the
- * lowest number that applies to it.
+ * where the record is counted from 0 and is 0 for refusal 1 and from 13 on, which
+ * name none. A sheet is refused for its first faulty record, and for the lowest
+ * number that applies to it. No refusal has the numbers 16 to 19.
  */
 enum conformity_refusal {
     /* The sheet is empty, not a whole number of records, or longer than 740 bytes. */
@@ -169,7 +178,13 @@ enum conformity_refusal {
     /* append: the record is not 20 bytes long. */
     CONFORMITY_REFUSED_RECORD = 14,
     /* report: the output is shorter than 20 bytes. */
-    CONFORMITY_REFUSED_OUTPUT = 15
+    CONFORMITY_REFUSED_OUTPUT = 15,
+    /* declared: there are no tests, or more than 3. */
+    CONFORMITY_REFUSED_TESTS = 20,
+    /* declared: the declared value or a test is not 1 to 9,999,999. */
+    CONFORMITY_REFUSED_VALUE = 21,
+    /* declared: a test follows those by which the declared value stands. */
+    CONFORMITY_REFUSED_LATE_TEST = 22
 };
 
 /* ---- The library -------------------------------------------------------- */
@@ -207,9 +222,32 @@ uint32_t conformity_append(uint8_t *buffer, size_t buffer_length, size_t used,
 uint32_t conformity_report(const uint8_t *sheet, size_t sheet_length,
                            uint8_t *output, size_t output_length);
 
+/*
+ * Compares the declared carbon dioxide value of a type with the tests of one
+ * vehicle, `count` of them in the order in which they were run. All values are
+ * whole thousandths of g/km, 1 to CONFORMITY_VALUE_MAX.
+ *
+ * The declared value stands if the first test, or else the mean of two, is at
+ * most 104/100 of it. Otherwise a third test is run, and the approval value is
+ * the mean of three. Nothing is rounded: the approval value is the fraction
+ * sum / divisor.
+ *
+ * Returns 0 when the tests have an answer, which is then written:
+ *     *divisor 0  and *sum 0: run another test, and call again with it added
+ *     *divisor 1  the declared value stands: *sum is that value
+ *     *divisor 3  *sum is the sum of the three tests
+ *
+ * Otherwise neither number has changed, and the refusal is the first of these:
+ *     20       there are no tests, or more than CONFORMITY_TESTS_MAX
+ *     21       the declared value or a test is out of range
+ *     22       a test follows those by which the declared value stands
+ */
+uint32_t conformity_declared(uint32_t declared, const uint32_t *tests, size_t count,
+                             uint32_t *sum, uint32_t *divisor);
+
 /* ---- Reading a return code ---------------------------------------------- */
 
-/* The refusal's number, 1 to 15 (enum conformity_refusal), or 0 for success. */
+/* The refusal's number (enum conformity_refusal), or 0 for success. */
 static inline uint32_t conformity_refusal_number(uint32_t code)
 {
     return code >> 8;
@@ -259,6 +297,12 @@ static inline const char *conformity_refusal_text(uint32_t number)
         return "the record is not 20 bytes long";
     case CONFORMITY_REFUSED_OUTPUT:
         return "the output is shorter than 20 bytes";
+    case CONFORMITY_REFUSED_TESTS:
+        return "there are no tests, or more than 3";
+    case CONFORMITY_REFUSED_VALUE:
+        return "the declared value or a test is not 1 to 9999999";
+    case CONFORMITY_REFUSED_LATE_TEST:
+        return "a test follows those by which the declared value stands";
     default:
         return "no refusal has this number";
     }

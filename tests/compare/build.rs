@@ -1,4 +1,5 @@
-//! Links each of the two delivered libraries into its own program of this package.
+//! Links the delivered libraries into the programs of this package, each by the entries that its
+//! program calls.
 
 fn main() {
     seal::link(
@@ -6,6 +7,7 @@ fn main() {
         &["conformity_append", "conformity_report"],
         "compare",
     );
+    seal::link("conformity", &["conformity_declared"], "compare_declared");
     seal::link(
         "probe",
         &[

@@ -1,11 +1,11 @@
 -- The declared pollutants of an accepted sheet by their number, 1 to w, where the definitions go through the list of those declared.
 use Rattle.arithmetic.proofs.Basics.{ℕ, zero, suc, _≤_, _<_, arith, _≡_, refl, true, false, not, _||_, cond, List, [], _∷_, _++_, map, append-nil, leb, eqb}
-use Rattle.arithmetic.proofs.Basics.{eqb-true, eqb-false, not-false, leb-false, or-false, or-true, by-test, any-snoc, map-append}
+use Rattle.arithmetic.proofs.Basics.{eqb-true, eqb-false, not-false, leb-false, in-range, or-false, or-true, by-test, any-snoc, map-append}
 use Rattle.rules.specs.Tools.{any, within}
 use Rattle.rules.specs.Logarithm.{greatest}
 use Rattle.rules.specs.Sheet.{Record, Pollutant, numbers, pollutantKind, kind, number, plan, limit, deviation, ofKind, pollutant, declared}
 use Rattle.rules.specs.Refusals.{newest, badNumber, badLimit, badDeviation, greatestDeviation}
-use Rattle.accepted.proofs.Faultless.{in-range, Clean, faultless, ofKind-append}
+use Rattle.accepted.proofs.Faultless.{Clean, faultless, ofKind-append}
 
 -- ---- what the pollutants of an accepted sheet are like: their numbers rise from above m to w, and their limits and deviations are in range
 

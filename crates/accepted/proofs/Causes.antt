@@ -1,10 +1,10 @@
 -- The causes of an accepted sheet: in plan 4 the gross emitters are the vehicles with a cause, and in the other plans there is none.
 use Rattle.arithmetic.proofs.Basics.{ℕ, arith, _≡_, refl, sym, Bool, true, false, not, _&&_, cond, List, [], _∷_, _++_, append-assoc, append-nil, eqb, eqb-true}
-use Rattle.arithmetic.proofs.Basics.{ne-eqb, never, by-test, any-last}
+use Rattle.arithmetic.proofs.Basics.{ne-eqb, in-range, never, by-test, any-last}
 use Rattle.rules.specs.Tools.{within}
 use Rattle.rules.specs.Sheet.{Record, Pollutant, pollutantKind, engineKind, kind, cause, ofKind, engines, planNumber, declared, gross}
 use Rattle.rules.specs.Refusals.{misplaced, badMeasurement, badCause, greatestCause}
-use Rattle.accepted.proofs.Faultless.{in-range, Clean, faultless, isOther, ofKind-append, no-pollutants}
+use Rattle.accepted.proofs.Faultless.{Clean, faultless, isOther, ofKind-append, no-pollutants}
 
 abbrev pub hasCause : Record → Bool
 hasCause r = not (eqb (cause r) 0)

@@ -1,17 +1,11 @@
 -- The records of an accepted sheet, each of which has no fault after those before it.
 use Rattle.arithmetic.proofs.Basics.{ℕ, zero, suc, _*_, _%_, _≤_, arith, _≡_, refl, sym, _∙_, Bool, true, false, not, _&&_, _||_, cond, List, [], _∷_, _++_}
-use Rattle.arithmetic.proofs.Basics.{append-assoc, append-nil, eqb, leb, ltb, length, eqb-true, eqb-false, not-false, ne-eqb, leb-true, lt-leb, ltb-false}
-use Rattle.arithmetic.proofs.Basics.{never, or-false, and-true, and-left, and-right, and-never, by-test, any-left, those-append}
+use Rattle.arithmetic.proofs.Basics.{append-assoc, append-nil, eqb, leb, ltb, length, eqb-true, eqb-false, not-false, ne-eqb, lt-leb, ltb-false}
+use Rattle.arithmetic.proofs.Basics.{never, or-false, and-left, and-right, and-never, by-test, any-left, those-append}
 use Rattle.rules.specs.Tools.{any, within}
 use Rattle.rules.specs.Sheet.{Record, size, most, records, pollutantKind, engineKind, stopKind, kind, ofKind, planNumber, declared, stopped}
 use Rattle.rules.specs.Refusals.{misplaced, badNumber, badPlan, badLimit, badDeviation, badMeasurement, badCause, tooMany, Fault, fault, first, faults, faultOf}
 use Rattle.rules.specs.Refusals.{Check, accepted, refused, checkFrom, badLength, check}
-
--- a number that is not outside a range
-pub in-range : (lo hi x : ℕ) → not (within lo hi x) ≡ false → (lo ≤ x) × (x ≤ hi)
-in-range lo hi x e =
-    let t = and-true (leb lo x) (leb x hi) (not-false (within lo hi x) e) in
-    (leb-true lo x (t .0), leb-true x hi (t .1))
 
 -- ---- each record has no fault after those before it
 

@@ -1,11 +1,11 @@
 -- The numbers of an accepted sheet: a declared pollutant's number is 1 to w, and each engine's measurement of it 1 to 9,999,999.
 use Rattle.arithmetic.proofs.Basics.{ℕ, zero, suc, _≤_, _<_, arith, _≡_, sym, _∙_, ⊎-elim, Bool, true, false, _||_, List, [], _∷_, eqb, eqb-true, never}
-use Rattle.arithmetic.proofs.Basics.{or-false, by-test, lt-or-ge, any-snoc}
+use Rattle.arithmetic.proofs.Basics.{or-false, by-test, lt-or-ge, in-range, any-snoc}
 use Rattle.rules.specs.Tools.{any}
 use Rattle.rules.specs.Logarithm.{greatest}
 use Rattle.rules.specs.Sheet.{Record, Pollutant, measurement, ofKind, engines, declared, declares, numbers}
 use Rattle.rules.specs.Refusals.{badValue, badMeasurement}
-use Rattle.accepted.proofs.Faultless.{in-range, Clean}
+use Rattle.accepted.proofs.Faultless.{Clean}
 use Rattle.accepted.proofs.ByNumber.{InOrder, in-order}
 use Rattle.accepted.proofs.Causes.{each-engine}
 

@@ -1,14 +1,14 @@
 -- What an accepted sheet has: records in their places, a plan, and engines to its last row at most.
 use Rattle.arithmetic.proofs.Basics.{ℕ, zero, suc, _+_, _*_, _≤_, _<_, arith, _≡_, refl, sym, ap, _∙_, Bool, true, false, cond, List, [], _∷_, _++_}
 use Rattle.arithmetic.proofs.Basics.{append-assoc, append-nil, eqb, length, getD, length-append, length-map, List·getD-append, List·getD-map, eqb-true}
-use Rattle.arithmetic.proofs.Basics.{not-false, leb-false, by-test}
+use Rattle.arithmetic.proofs.Basics.{not-false, leb-false, in-range, by-test}
 use Rattle.rules.specs.Sheet.{Record, pollutants, recordSize, mostRecords, records, pollutantKind, engineKind, stopKind, kind, plan, ofKind, engines, pollutant}
 use Rattle.rules.specs.Sheet.{declared, planNumber}
 use Rattle.rules.specs.Plans.{Plan, knownDeviation, unknownDeviation, attributes, inService, planOf, lastRow, planCount}
 use Rattle.rules.specs.Refusals.{misplaced, badPlan, tooMany}
 use Rattle.accepted.specs.Sheets.{recordAt, pollutantsIn, enginesIn, AcceptedSheet}
 use Rattle.accepted.proofs.Records.{record-at, whole-records, length-records}
-use Rattle.accepted.proofs.Faultless.{in-range, Clean, Sound, sound, faultless, ofKind-append}
+use Rattle.accepted.proofs.Faultless.{Clean, Sound, sound, faultless, ofKind-append}
 use Rattle.accepted.proofs.Engines.{layout, counts, engine-at}
 use Rattle.accepted.proofs.ByNumber.{InOrder, in-order}
 use Rattle.accepted.proofs.Causes.{Caused, causes, plan-append}

@@ -13,12 +13,12 @@ pub use lib.Dec.{leb, eqb, ltb, eqb·suc-suc, leb·zero, T, leb→le, lit<}
 pub use lib.ListN.{length, getD, length-append, List·getD-append, take, drop, length-drop, length-map, List·getD-map, take-append-drop, drop-of-length-le, set}
 pub use lib.ListN.{length-set, List·getD-eq-default, length-take}
 pub use lib.Seq.{getD-append-add, take-append-le, drop-append-le, drop-drop, getD-take, getD-drop, take-suc, length-take-le, drop-at, take-all, take-length}
-pub use lib.Seq.{drop-cons, drop-length, getD-set-same, take-suc-set}
+pub use lib.Seq.{drop-cons, drop-length, getD-set-same, take-suc-set, take-take}
 pub use lib.IntN.{ℤ, pos, negℤ, _*ℤ_, _+ℤ_, _-ℤ_, negsuc, natAbs}
 pub use lib.Signed.{ltZ, leZ, mag, nonNeg}
 pub use borrow.Author.Tests.{eqb-true, eqb-false, not-false, leb-false, ne-eqb, leb-true, lt-leb, ltb-false, le-leb, eq-eqb, le-ltb, ltb-true, lt-ltb, not-true}
 pub use borrow.Author.Needs.{needs}
 pub use Rattle.arithmetic.proofs.Booleans.{or-false, or-true, by-test, never, and-true, and-left, and-right, and-never, or-same, not-or, or-right}
 pub use Rattle.arithmetic.proofs.Booleans.{and-follows, cond-follows, or-swap, or-assoc}
-pub use Rattle.arithmetic.proofs.Order.{lt-or-ge, not-ltb, ltb-same, twice, leb-same}
+pub use Rattle.arithmetic.proofs.Order.{lt-or-ge, not-ltb, ltb-same, in-range, twice, leb-same}
 pub use Rattle.arithmetic.proofs.Lists.{any-snoc, map-append, any-last, any-left, those-append, length-those, any-update, any-part}

@@ -1,12 +1,14 @@
--- Tests of order, of which two that test the same give the same; and the order of squares.
+-- Tests of order, of which two that test the same give the same; a test of a range; and the order of squares.
 use Prim.Native.Nat.{ℕ, suc, _+_, _-_, _*_, _≤_, _<_}
 use mathlib.Core.Path.{_≡_, sym, ap, _∙_}
-use mathlib.Core.Bool.{not}
+use mathlib.Core.Bool.{false, not}
 use mathlib.Core.Logic.{_⊎_, inl, inr, ⊎-elim, _↔_}
 use native.Mathlib.Omega.{arith}
 use native.Mathlib.Decide.{decLt}
 use lib.Dec.{ltb, leb}
-use borrow.Author.Tests.{lt-ltb, le-ltb, lt-leb, le-leb}
+use borrow.Author.Tests.{lt-ltb, le-ltb, lt-leb, le-leb, leb-true, not-false}
+use Rattle.rules.specs.Tools.{within}
+use Rattle.arithmetic.proofs.Booleans.{and-true}
 
 -- one of two numbers is the lower, or the other is at most that
 pub lt-or-ge : (a b : ℕ) → (a < b) ⊎ (b ≤ a)
@@ -28,6 +30,12 @@ ltb-same a b c d e = leb-same (suc a) b (suc c) d e
 pub not-ltb : (a b : ℕ) → not (ltb a b) ≡ leb b a
 not-ltb a b =
     ⊎-elim (λ lt. ap not (lt-ltb a b lt) ∙ sym (lt-leb b a lt)) (λ ge. ap not (le-ltb a b ge) ∙ sym (le-leb b a ge)) (lt-or-ge a b)
+
+-- a number that is not outside a range
+pub in-range : (lo hi x : ℕ) → not (within lo hi x) ≡ false → (lo ≤ x) × (x ≤ hi)
+in-range lo hi x e =
+    let t = and-true (leb lo x) (leb x hi) (not-false (within lo hi x) e) in
+    (leb-true lo x (t .0), leb-true x hi (t .1))
 
 -- twice a product is at most the sum of the squares
 pub twice : (a b : ℕ) → 2 * (a * b) ≤ a * a + b * b

@@ -1,9 +1,14 @@
-// The entries for the bench's control program, written in C: append and report, answering number * 256 + record, 0 on success.
+// The entries for programs in C, answering number * 256 + record, 0 on success: append and report for the bench's control program,
+// and declared for type approval.
 ghost use mathlib.Core.Path.{_≡_};
 ghost use Rattle.rules.specs.Logarithm.{squarings};
 ghost use Rattle.rules.specs.Sheet.{pollutants};
 ghost use Rattle.rules.specs.Operations as rules;
+ghost use Rattle.rules.specs.DeclaredValue as approval;
 ghost use Rattle.operations.specs.Outcomes.{outcomeIs};
+use checking::Refusal;
+use declared_value::Approval;
+use declared_value::approve;
 use operations::Outcome;
 
 // "gets number × 256 + record"
@@ -32,4 +37,31 @@ pub extern "C" fn conformity_report(sheet: &[u8], output: &mut [u8]) -> u32
     ensures { λ _. ⌜ now (output .exit) ≡ rules.reported pollutants squarings (now (sheet .entry)) (now (output .entry)) ⌝ }
 {
     code(operations::report(sheet, output))
+}
+
+// uint32_t conformity_declared(uint32_t declared, const uint32_t *tests, size_t count, uint32_t *sum, uint32_t *divisor)
+#[no_mangle]
+pub extern "C" fn conformity_declared(
+    declared: u32,
+    tests: &[u32],
+    sum: &mut u32,
+    divisor: &mut u32,
+) -> u32
+    ensures { λ n. ⌜ n ≡ rules.code (approval.outcome (approval.approve declared (now (tests .entry)))) ⌝ }
+    ensures { λ _. ⌜ now (sum .exit) ≡ approval.sumAfter (approval.approve declared (now (tests .entry))) (now (sum .entry)) ⌝ }
+    ensures { λ _. ⌜ now (divisor .exit) ≡ approval.divisorAfter (approval.approve declared (now (tests .entry))) (now (divisor .entry)) ⌝ }
+{
+    match approve(declared, tests) {
+        Approval::Another => {
+            *sum = 0;
+            *divisor = 0;
+            0
+        }
+        Approval::Value { sum: total, count } => {
+            *sum = total;
+            *divisor = count;
+            0
+        }
+        Approval::Refused(number) => Refusal { number, place: 0 }.code(),
+    }
 }

@@ -1,13 +1,13 @@
 -- What the program keeps of the records before one is enough: the refusal by it is document 01's, which looks back at their list.
 use Rattle.arithmetic.proofs.Basics.{ℕ, _+_, _≤_, arith, _≡_, refl, sym, ap, _∙_, Bool, true, false, not, _&&_, _||_, cond, List, [], _∷_, _++_, ltb, eqb}
 use Rattle.arithmetic.proofs.Basics.{length, length-append, eqb-true, eqb-false, ne-eqb, eq-eqb, not-false, lt-ltb, never, or-false, or-same, or-true}
-use Rattle.arithmetic.proofs.Basics.{and-right, by-test, any-snoc}
+use Rattle.arithmetic.proofs.Basics.{in-range, and-right, by-test, any-snoc}
 use Rattle.rules.specs.Tools.{any, within}
 use Rattle.rules.specs.Sheet.{Record, pollutants, pollutantKind, engineKind, stopKind, kind, number, plan, limit, ofKind, engines, stopped, planNumber}
 use Rattle.rules.specs.Sheet.{pollutant, declared}
 use Rattle.rules.specs.Plans.{planOf, lastRow, planCount}
 use Rattle.rules.specs.Refusals.{misplaced, newest, badNumber, badPlan, badLimit, badDeviation, badCause, tooMany, Fault, fault, first, faults, faultOf}
-use Rattle.accepted.proofs.Faultless.{in-range, Clean, clean-join, Faultless, faultless, by-kind, isOther, ofKind-append, placed-so}
+use Rattle.accepted.proofs.Faultless.{Clean, clean-join, Faultless, faultless, by-kind, isOther, ofKind-append, placed-so}
 use Rattle.accepted.proofs.Causes.{plan-append}
 use Rattle.accepted.proofs.Engines.{counts}
 use Rattle.accepted.proofs.ByNumber.{limitOf, InOrder, in-order, declared-one, declared-other, newest-snoc, limit-most}

@@ -20,10 +20,9 @@ use record::number_of;
 use record::plan_of;
 use record::u16_at;
 use record::u32_at;
+use values::GREATEST;
 
-// The greatest limit and measurement, the greatest deviation of plan 1, and the greatest cause.
-const GREATEST: u32 = 9_999_999;
-
+// The greatest deviation of plan 1, and the greatest cause.
 const GREATEST_DEVIATION: u32 = 4_000_000;
 
 const GREATEST_CAUSE: u32 = 65_534;

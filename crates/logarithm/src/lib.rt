@@ -3,12 +3,10 @@ ghost use mathlib.Core.Path.{_≡_};
 ghost use Rattle.rules.specs.Logarithm.{g, squarings};
 ghost use Rattle.logarithm.specs.Four.{Measured, FourRanges, logarithmsOf};
 ghost use Rattle.logarithm.specs.Squaring.{Fits, startOf, nextOf};
+use values::GREATEST;
 
 // "Sixteen times": the number of squarings, `squarings` of the definitions.
 const STEPS: u32 = 16;
-
-// The greatest limit and measurement.
-const GREATEST: u32 = 9999999;
 
 // A logarithm in the making: the bits found so far, first bit highest, and the number that is squared next, M.
 struct Unfinished {

@@ -1,4 +1,5 @@
 -- Document 01, the specification, a file for each of its sections. The refusals stand before the operations, which use them.
+-- Behind them, a file for each request of document 02 that is about no sheet.
 --
 -- Two numbers are parameters throughout, each put in at one place:
 -- w, the pollutants that the format has room for (`pollutants` in Sheet), and q, the squarings of the logarithm (`squarings` in Logarithm).
@@ -11,3 +12,4 @@ pub mod Refusals
 pub mod Operations
 pub mod Printed
 pub mod Demands
+pub mod DeclaredValue

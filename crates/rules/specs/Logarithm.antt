@@ -1,6 +1,6 @@
 -- Document 01, "The logarithm".
 use Prim.Native.Nat.{ℕ, zero, suc, _+_, _-_, _*_, _/_, _^_}
-use mathlib.Core.Bool.{cond}
+use mathlib.Core.Bool.{Bool, not, cond}
 use mathlib.Core.List.{List, map}
 use lib.Dec.{leb}
 use lib.ListN.{length}
@@ -11,9 +11,13 @@ use Rattle.rules.specs.Tools.{within, total, square}
 abbrev pub squarings : ℕ
 squarings = 16
 
--- "m from 1 to 9,999,999", the range of limits and measurements too
+-- "m from 1 to 9,999,999", the range of limits and measurements too, and of declared values and their tests (document 02, F-4)
 abbrev pub greatest : ℕ
 greatest = 9999999
+
+-- out of that range
+abbrev pub outside : ℕ → Bool
+outside x = not (within 1 greatest x)
 
 -- the number of binary digits of m, of which there are at most k
 unfoldable pub binaryDigits : (k m : ℕ) → ℕ

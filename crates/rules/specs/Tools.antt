@@ -24,6 +24,10 @@ module _ {A : Type 0} where
 abbrev pub within : (lo hi x : ℕ) → Bool
 within lo hi x = leb lo x && leb x hi
 
+unfoldable pub sum : List ℕ → ℕ
+sum [] = 0
+sum (x ∷ xs) = x + sum xs
+
 unfoldable pub total : List ℤ → ℤ
 total [] = pos 0
 total (z ∷ zs) = z +ℤ total zs

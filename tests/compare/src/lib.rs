@@ -1,15 +1,18 @@
-//! What the two programs of the comparison share: the sheets, the calls, the lent memory and the
+//! What the programs of the comparison share: the sheets, the calls, the lent memory and the
 //! counting. `compare` holds report and append of the delivered library against the second
-//! implementation; `compare_probe` holds the logarithm, evidence, the printed lines and the reader.
+//! implementation; `compare_probe` holds the logarithm, evidence, the printed lines and the reader;
+//! `compare_declared` holds declared values with their tests.
 
 pub mod attributes;
 pub mod cases;
 pub mod corpus;
+pub mod declared;
 pub mod draft;
 pub mod exact;
 pub mod memory;
 pub mod pairs;
 pub mod paper;
+pub mod program;
 pub mod promises;
 pub mod refusals;
 pub mod seen;

@@ -163,3 +163,12 @@ impl Lender for Boxes {
         (result, output.into_vec())
     }
 }
+
+/// The first numbers that lent bytes hold.
+pub fn numbers_in<const COUNT: usize>(bytes: &[u8]) -> [u32; COUNT] {
+    let mut numbers = [0; COUNT];
+    for (number, bytes) in numbers.iter_mut().zip(bytes.as_chunks().0) {
+        *number = u32::from_ne_bytes(*bytes);
+    }
+    numbers
+}

@@ -15,6 +15,13 @@ extern "C" {
         output: *mut u8,
         output_length: usize,
     ) -> u32;
+    pub fn conformity_declared(
+        declared: u32,
+        tests: *const u32,
+        count: usize,
+        sum: *mut u32,
+        divisor: *mut u32,
+    ) -> u32;
     pub fn probe_logarithm(m: u32) -> u32;
     pub fn probe_evidence(sheet: *const u8, sheet_length: usize, code: *mut u32) -> usize;
     pub fn probe_lines(

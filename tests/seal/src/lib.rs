@@ -13,7 +13,7 @@ pub fn link(name: &str, symbols: &[&str], program: &str) {
     println!("cargo:rerun-if-env-changed=CONFORMITY_LIB_DIR");
     println!("cargo:rerun-if-changed={}", archive.display());
     let out = PathBuf::from(env::var_os("OUT_DIR").expect("set by cargo"));
-    let object = out.join(format!("{name}.o"));
+    let object = out.join(format!("{name}_for_{program}.o"));
     join_members(&archive, &object, symbols);
     hide_all_but(&object, symbols);
     println!("cargo:rustc-link-arg-bin={program}={}", object.display());

@@ -1,18 +1,21 @@
-//! Document 01, "Sequential conformity verdicts", sentence by sentence: one small method for each
-//! sentence or number that can be misread, in the document's order. `check`, `judge`,
-//! `operations` and `reader` put the sentences together and hold for any document.
+//! Document 01, "Sequential conformity verdicts", and behind it the requests of document 02 that
+//! landed, sentence by sentence: one small method for each sentence or number that can be misread,
+//! in the documents' order. `check`, `judge`, `operations`, `reader` and `declared` put the
+//! sentences together and hold for any document.
 
 use crate::check::{number_at, Record, Refusal, Series, ENGINE, LONGEST_SHEET, POLLUTANT, RECORD};
+use crate::declared::{total, Approval};
 use crate::judge::{Decision, Ending, GrossEmitters, Ground, Judgement, Row, Verdict};
 use crate::operations::REPORT;
 use crate::tables::{self, Column};
 
-/// Document 01 as it stands.
+/// Document 01 as it stands, and the requests of document 02 that landed.
 pub struct Document01;
 
 impl Document for Document01 {}
 
-/// "Limits and measurements are whole thousandths of the limit's unit, 1 to 9,999,999."
+/// "Limits and measurements are whole thousandths of the limit's unit, 1 to 9,999,999", and the
+/// values of F-4 "whole thousandths of g/km, 1 to 9,999,999".
 const LARGEST: u32 = 9_999_999;
 
 pub trait Document {
@@ -537,6 +540,105 @@ pub trait Document {
     /// "A refusal prints `refused`, number, record."
     fn refused_line(&self, Refusal { number, record }: Refusal) -> String {
         format!("refused {number} {record}\n")
+    }
+
+    // ---- Declared carbon dioxide (document 02, F-4)
+
+    /// Document 004, 6.5.1: whether the value measured does "exceed the declared value by more
+    /// than 4 %"; 6.5.2: whether "the average of the two test results" does. "Compared exactly":
+    /// both sides are taken 100 times, and once for each test. "The measured value can be lower
+    /// without any limitations."
+    fn exceeds(&self, declared: u32, tests: &[u32]) -> bool {
+        let declared = tests.len() as i128 * i128::from(declared);
+        let excess = total(tests) - declared;
+        100 * excess > self.percent() * declared
+    }
+
+    /// "More than 4 %", which is more than "104/100 of it".
+    fn percent(&self) -> i128 {
+        4
+    }
+
+    /// "Sum and count (declared value and 1 where it stands)", whichever tests let it stand.
+    fn standing(&self, declared: u32, _tests: &[u32]) -> Approval {
+        Approval::Value {
+            sum: declared,
+            count: 1,
+        }
+    }
+
+    /// 6.5.3: "The average of the three test results is taken as the type-approval value",
+    /// wherever it lies.
+    fn mean_of_three(&self, _declared: u32, tests: [u32; 3]) -> Approval {
+        Approval::Value {
+            sum: total(&tests) as u32,
+            count: 3,
+        }
+    }
+
+    /// "Turned away: 20, [..]; 21, [..], after 20; 22, [..], after 21."
+    fn approval_fault(&self, declared: u32, tests: &[u32]) -> Option<u8> {
+        if !self.test_count_fits(tests.len()) {
+            Some(20)
+        } else if !self.values_fit(declared, tests) {
+            Some(21)
+        } else if self.has_late_test(declared, tests) {
+            Some(22)
+        } else {
+            None
+        }
+    }
+
+    /// "20, no tests or more than three".
+    fn test_count_fits(&self, count: usize) -> bool {
+        (1..=3).contains(&count)
+    }
+
+    /// "21, value out of range": the declared value or any test.
+    fn values_fit(&self, declared: u32, tests: &[u32]) -> bool {
+        self.declared_fits(declared) && tests.iter().all(|&test| self.test_fits(test))
+    }
+
+    /// The declared value is one of the "values [..] 1 to 9,999,999".
+    fn declared_fits(&self, declared: u32) -> bool {
+        (1..=LARGEST).contains(&declared)
+    }
+
+    /// Each test is one of the "values [..] 1 to 9,999,999".
+    fn test_fits(&self, test: u32) -> bool {
+        (1..=LARGEST).contains(&test)
+    }
+
+    /// "22, a test after the decision": a second where the value stands by the first, or a third
+    /// where it stands by the first or by the mean of two.
+    fn has_late_test(&self, declared: u32, tests: &[u32]) -> bool {
+        match *tests {
+            [first, _] => !self.exceeds(declared, &[first]),
+            [first, second, _, ..] => {
+                !self.exceeds(declared, &[first]) || !self.exceeds(declared, &[first, second])
+            }
+            _ => false,
+        }
+    }
+
+    /// "A refusal that names no record, here or later, returns record 0."
+    fn approval_refusal(&self, number: u8, _tests: &[u32]) -> Refusal {
+        Refusal::of_no_record(number)
+    }
+
+    /// What a refusal returns in C: "number x 256 + record".
+    fn approval_code(&self, refusal: Refusal) -> u32 {
+        refusal.code()
+    }
+
+    /// What C finds written as sum and as divisor: 0 and 0 for another test, and nothing on a
+    /// refusal.
+    fn written(&self, answer: Result<Approval, Refusal>) -> [Option<u32>; 2] {
+        match answer {
+            Ok(Approval::Another) => [Some(0), Some(0)],
+            Ok(Approval::Value { sum, count }) => [Some(sum), Some(count)],
+            Err(_) => [None, None],
+        }
     }
 }
 

@@ -1,15 +1,17 @@
-//! A second, independent implementation of document 01 ("Sequential conformity verdicts"),
-//! written from its words and from the printed columns of documents 001 and 000. The delivered
-//! library is compared with it, and timed against it. It aims at being plain: one function for
-//! each sentence, rows walked in order, statistics in 128-bit integers.
+//! A second, independent implementation of document 01 ("Sequential conformity verdicts") and of
+//! the requests of document 02 that landed, written from their words, from the printed columns of
+//! documents 001 and 000, and from section 6.5 of document 004. The delivered library is compared
+//! with it, and timed against it. It aims at being plain: one function for each sentence, rows
+//! walked in order, statistics in 128-bit integers.
 //!
-//! The sentences are the methods of the trait `Document`, and `Document01` is the document as it
-//! stands. Every operation takes the document it goes by. `variants` are wrong readings of single
-//! sentences, each of which the comparison has to notice.
+//! The sentences are the methods of the trait `Document`, and `Document01` is the documents as
+//! they stand. Every operation takes the document it goes by. `variants` are wrong readings of
+//! single sentences, each of which the comparison has to notice.
 
 #![forbid(unsafe_code)]
 
 mod check;
+mod declared;
 mod document;
 mod judge;
 mod operations;
@@ -18,6 +20,7 @@ mod tables;
 pub mod variants;
 
 pub use check::{check, Record, Refusal, Series, LONGEST_SHEET, RECORD};
+pub use declared::{approve, declared, Approval};
 pub use document::{Document, Document01};
 pub use judge::{judge, Decision, Ending, GrossEmitters, Ground, Judgement, Row, Verdict};
 pub use operations::{append, evidence, lines, report, REPORT};

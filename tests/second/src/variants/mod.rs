@@ -1,11 +1,12 @@
-//! The wrong readings: each is document 01 with one sentence misread, and each has to be noticed
-//! by the comparison.
+//! The wrong readings: each is document 01 and the landed requests of document 02 with one
+//! sentence misread, and each has to be noticed by the comparison.
 //!
 //! Two wrong readings are missing because no sheet can tell them from the right ones.
 //! "≥ in plan 1" differs only where T x 693,147,181 = A x t x 65,536; 693,147,181 is a prime
 //! above every A and every t, and no A is zero, so the two sides are never equal. And in the
 //! logarithm Q is a square, which 2^63 is not, so "Q > 2^63" is the same as "Q >= 2^63".
 
+mod declared;
 mod families;
 mod probe;
 mod report;
@@ -13,6 +14,7 @@ mod report;
 use crate::document::Document;
 use families::Number;
 
+pub use declared::declared;
 pub use families::{causes, decision_numbers, logarithms, variances};
 pub use probe::{logarithm_evidence_and_lines, reader};
 pub use report::report_and_append;
@@ -47,7 +49,7 @@ impl Family {
     }
 }
 
-/// Document 01 with this method for its own.
+/// `Document01` with this method for its own.
 macro_rules! wrong {
     ($description:literal, $($method:tt)*) => {{
         struct Reading;

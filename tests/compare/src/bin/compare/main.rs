@@ -1,7 +1,4 @@
 //! Compares report and append of the delivered library with the second implementation.
-//!
-//! `compare` goes through everything, `compare --quick` through a part (for a run under
-//! valgrind), and `compare --mutants` shows that the comparison notices each wrong variant.
 
 mod library;
 mod mutants;
@@ -11,6 +8,7 @@ use compare::corpus::{Corpus, Origin, Scale, FULL, QUICK};
 use compare::draft::LARGEST;
 use compare::memory::{Boxes, Edge, Pages};
 use compare::paper::{Chosen, Paper};
+use compare::program;
 use compare::promises;
 use compare::refusals::WAYS;
 use compare::seen::{print_exact, print_pairs, Seen};
@@ -25,16 +23,12 @@ use std::process::ExitCode;
 const SECOND: Second<Document01> = Second(&Document01);
 
 fn main() -> ExitCode {
-    let mode = std::env::args().nth(1);
-    match mode.as_deref() {
-        None => compare(FULL, 1),
-        Some("--quick") => compare(QUICK, 4999),
-        Some("--mutants") => mutants::catch(),
-        Some(_) => {
-            eprintln!("usage: compare [--quick | --mutants]");
-            ExitCode::FAILURE
-        }
-    }
+    program::run(
+        "compare",
+        || compare(FULL, 1),
+        || compare(QUICK, 4999),
+        mutants::catch,
+    )
 }
 
 /// The sheets, then one part of `step` of the sweeps.

@@ -6,73 +6,42 @@ use compare::cases::{reported, visit_cases, Case, Second};
 use compare::corpus::{Corpus, Scale, FULL};
 use compare::memory::{Boxes, Edge};
 use compare::paper::Chosen;
+use compare::program::Mutants;
 use compare::sweeps::Sweep;
 use random::Random;
-use second::variants::{self, Family, Wrong};
+use second::variants;
 use second::Document;
 use std::ops::ControlFlow;
 use std::process::ExitCode;
-
-/// How many wrong variants were tried, and how many nothing noticed.
-#[derive(Default)]
-struct Count {
-    tried: usize,
-    survivors: usize,
-}
 
 pub fn catch() -> ExitCode {
     let corpus = Corpus::new(Scale {
         random_sheets: 20_000,
         ..FULL
     });
-    let mut count = Count::default();
+    let mut mutants = Mutants::default();
     for wrong in variants::report_and_append() {
-        count.try_one(&corpus, &wrong);
+        mutants.note(&wrong, caught_by(&corpus, wrong.reading.as_ref()));
     }
     let in_corpus = |wrong: &dyn Document| is_in_corpus(&corpus, wrong);
-    count.try_families(variants::decision_numbers(), in_corpus);
-    count.try_families(variants::variances(), in_corpus);
+    mutants.try_families(variants::decision_numbers(), in_corpus);
+    mutants.try_families(variants::variances(), in_corpus);
     let in_sweep = |sweep| {
         let corpus = &corpus;
         move |wrong: &dyn Document| is_in_sweep(corpus, sweep, wrong)
     };
-    count.try_families(variants::logarithms(), in_sweep(Sweep::Logarithms));
-    count.try_families(variants::causes(), in_sweep(Sweep::Causes));
-    let Count { tried, survivors } = count;
-    println!("mutants: {tried} wrong variants, {survivors} not caught");
-    ExitCode::from(u8::from(survivors > 0))
+    mutants.try_families(variants::logarithms(), in_sweep(Sweep::Logarithms));
+    mutants.try_families(variants::causes(), in_sweep(Sweep::Causes));
+    mutants.finish()
 }
 
-impl Count {
-    /// The corpus first, and what it lets through goes through the sweeps.
-    fn try_one(&mut self, corpus: &Corpus, wrong: &Wrong) {
-        let reading = wrong.reading.as_ref();
-        let in_sweeps = || {
-            let mut sweeps = [Sweep::Logarithms, Sweep::Causes].into_iter();
-            let sweep = sweeps.find(|&sweep| is_in_sweep(corpus, sweep, reading))?;
-            Some(format!("report (sweep of {sweep:?})"))
-        };
-        let caught_by = in_corpus(corpus, reading).or_else(in_sweeps);
-        self.tried += 1;
-        self.survivors += usize::from(caught_by.is_none());
-        let caught_by = caught_by.unwrap_or("NOTHING".to_string());
-        println!("{}: caught by {caught_by}", wrong.description);
-    }
-
-    /// Each has to be caught in the one way.
-    fn try_families(&mut self, families: Vec<Family>, is_caught: impl Fn(&dyn Document) -> bool) {
-        for Family { title, readings } in families {
-            let survivors: Vec<&str> = readings
-                .iter()
-                .filter(|wrong| !is_caught(wrong.reading.as_ref()))
-                .map(|wrong| wrong.description.as_str())
-                .collect();
-            let caught = readings.len() - survivors.len();
-            println!("{title}: {caught} caught by report, not caught: {survivors:?}");
-            self.tried += readings.len();
-            self.survivors += survivors.len();
-        }
-    }
+/// The corpus first, and what it lets through goes through the sweeps.
+fn caught_by(corpus: &Corpus, wrong: &dyn Document) -> Option<String> {
+    in_corpus(corpus, wrong).or_else(|| {
+        let mut sweeps = [Sweep::Logarithms, Sweep::Causes].into_iter();
+        let sweep = sweeps.find(|&sweep| is_in_sweep(corpus, sweep, wrong))?;
+        Some(format!("report (sweep of {sweep:?})"))
+    })
 }
 
 /// The first case in which the library and a wrong variant differ.

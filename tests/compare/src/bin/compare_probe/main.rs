@@ -1,18 +1,15 @@
 //! Compares the logarithm, evidence, the printed lines and the reader with the second
 //! implementation, by way of the probe library.
-//!
-//! `compare_probe` goes through everything, `compare_probe --quick` through a part (for a run
-//! under valgrind), and `compare_probe --mutants` shows that the comparison notices each wrong
-//! variant.
 
 mod operations;
 
 use compare::corpus::{Corpus, Scale, FULL, QUICK};
 use compare::memory::{Boxes, Edge, Lender, Pages};
+use compare::program::{self, Mutants};
 use compare::tally::Tally;
 use operations::{answers, step_at, Operations, Second, LIBRARY, LINES, WITH_NULL};
 use random::Random;
-use second::variants::{self, Wrong};
+use second::variants;
 use second::{Document01, RECORD};
 use std::ops::ControlFlow;
 use std::process::ExitCode;
@@ -20,16 +17,12 @@ use std::process::ExitCode;
 const SECOND: Second<Document01> = Second(&Document01);
 
 fn main() -> ExitCode {
-    let mode = std::env::args().nth(1);
-    match mode.as_deref() {
-        None => compare(FULL, 1),
-        Some("--quick") => compare(QUICK, 997),
-        Some("--mutants") => catch_mutants(),
-        Some(_) => {
-            eprintln!("usage: compare_probe [--quick | --mutants]");
-            ExitCode::FAILURE
-        }
-    }
+    program::run(
+        "compare_probe",
+        || compare(FULL, 1),
+        || compare(QUICK, 997),
+        catch_mutants,
+    )
 }
 
 /// The logarithm of every `step`th m, then the sheets.
@@ -151,24 +144,17 @@ fn catch_mutants() -> ExitCode {
         random_sheets: 20_000,
         ..FULL
     });
-    let mut survivors = 0;
-    let mut try_one = |wrong: &Wrong, caught_by: Option<String>| {
-        survivors += u32::from(caught_by.is_none());
-        let caught_by = caught_by.unwrap_or("NOTHING".to_string());
-        println!("{}: caught by {caught_by}", wrong.description);
-    };
-    let (others, readers) = (variants::logarithm_evidence_and_lines(), variants::reader());
-    for wrong in &others {
+    let mut mutants = Mutants::default();
+    for wrong in variants::logarithm_evidence_and_lines() {
         let second = Second(wrong.reading.as_ref());
         let caught_by = in_logarithms(&second).or_else(|| in_answers(&corpus, &second));
-        try_one(wrong, caught_by);
+        mutants.note(&wrong, caught_by);
     }
-    for wrong in &readers {
-        try_one(wrong, in_steps(&corpus, &Second(wrong.reading.as_ref())));
+    for wrong in variants::reader() {
+        let caught_by = in_steps(&corpus, &Second(wrong.reading.as_ref()));
+        mutants.note(&wrong, caught_by);
     }
-    let tried = others.len() + readers.len();
-    println!("mutants: {tried} wrong variants, {survivors} not caught");
-    ExitCode::from(u8::from(survivors > 0))
+    mutants.finish()
 }
 
 /// The first logarithm in which the library and a wrong variant differ.

@@ -1,6 +1,6 @@
 //! What the probe library has entries for, of it and of the second implementation.
 
-use compare::memory::{Edge, Empty, Lender};
+use compare::memory::{numbers_in, Edge, Empty, Lender};
 use entries::{probe_evidence, probe_lines, probe_logarithm, probe_step};
 use second::{evidence, lines, Document, Reader, Step};
 
@@ -141,9 +141,5 @@ pub fn step_at(
 ) -> Standing {
     let step = |sheet: &[u8], numbers: &mut [u8]| operations.step(sheet, k, numbers);
     let (left, bytes) = lender.lend(sheet, &[UNWRITTEN; NUMBERS], edge, step);
-    let mut numbers = [0; 6];
-    for (number, bytes) in numbers.iter_mut().zip(bytes.as_chunks().0) {
-        *number = u32::from_ne_bytes(*bytes);
-    }
-    (left, numbers)
+    (left, numbers_in(&bytes))
 }
