@@ -6,19 +6,23 @@ ghost use Rattle.decisions.specs.Ranges.{ColumnRange};
 use crate::Decision;
 use crate::fours::measured_or_one;
 use rows::Row;
+use rows::tables::fail_numbers;
+use rows::tables::pass_numbers;
 
 // A column of plan 3, whatever the deviation.
 pub(crate) fn column(bytes: &[u8], start: usize, number: u32, limit: u32, rows: usize) -> Decision
     requires { ⌜ ColumnRange (now bytes) start Attributes number limit 0 rows ⌝ }
     ensures { λ d. ⌜ ((t : ℕ) → ColumnIs Attributes (now (bytes .entry)) number limit t rows d) ⌝ }
 {
-    let mut over: u64 = 0;
+    let pass = pass_numbers();
+    let fail = fail_numbers();
+    let mut over: u8 = 0;
     let mut n: usize = 0;
     while n < rows {
-        over = over + (limit < measured_or_one(bytes, start, number, rows, n)) as u64;
+        over = over + (limit < measured_or_one(bytes, start, number, rows, n)) as u8;
         n += 1;
         if 3 <= n {
-            let row = rows::attributes_row(n as u64, over);
+            let row = rows::attributes_row(n as u64, &pass, &fail, over);
             match row {
                 Row::Open => {}
                 Row::Pass => {

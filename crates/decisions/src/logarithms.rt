@@ -1,5 +1,6 @@
 // Plans 1, 2 and 4: the sums of the measurements' logarithms and of their squares, and the rows by them.
-ghost use Rattle.rows.specs.Tables.{Lent};
+ghost use Rattle.rules.specs.Plans.{unknownNumbers};
+ghost use Rattle.rows.specs.Tables.{knownNumbers, Lent};
 ghost use Rattle.decisions.specs.Column.{ColumnIs, RowFrom};
 ghost use Rattle.decisions.specs.Ranges.{RowRange, LogarithmsRange};
 use crate::Decision;
@@ -10,10 +11,10 @@ use plan::Plan;
 use record::cause_of;
 use record::record_at;
 use rows::Row;
-use rows::unknown::table_a;
-use rows::unknown::table_b;
+use rows::tables::known_deviation;
+use rows::tables::unknown_deviation;
 
-// What row n of the plan says by the sums; level is the limit's logarithm, a and b are plan 2's tables, lent.
+// What row n of the plan says by the sums; level is the limit's logarithm, `known` and `unknown` are the tables, lent.
 // W is n × squares − sum × sum: it does not change where every logarithm is moved by the limit's.
 fn row(
     plan: Plan,
@@ -22,21 +23,22 @@ fn row(
     squares: u64,
     level: u64,
     deviation: u64,
-    a: &[u32; 30],
-    b: &[u32; 30],
+    known: &[[u32; 2]; 30],
+    unknown: &[[u32; 2]; 30],
 ) -> Row
     requires { ⌜ RowRange plan n sum squares level deviation ⌝ }
-    requires { ⌜ Lent (now a) (now b) ⌝ }
+    requires { ⌜ Lent knownNumbers (now known) ⌝ }
+    requires { ⌜ Lent unknownNumbers (now unknown) ⌝ }
     ensures { λ r. ⌜ RowFrom plan n sum squares level deviation r ⌝ }
 {
     match plan {
-        Plan::KnownDeviation => rows::known_row(n, sum, level, deviation),
+        Plan::KnownDeviation => rows::known_row(n, known, sum, level, deviation),
         Plan::UnknownDeviation => {
-            rows::unknown_row(n, a, b, sum, n * level, n * squares - sum * sum)
+            rows::unknown_row(n, unknown, sum, n * level, n * squares - sum * sum)
         }
         Plan::Attributes => Row::Open,
         Plan::InService => {
-            rows::in_service_row(n, a, b, sum, n * level, n * squares - sum * sum)
+            rows::in_service_row(n, unknown, sum, n * level, n * squares - sum * sum)
         }
     }
 }
@@ -57,8 +59,8 @@ pub(crate) fn column(
     if rows < 3 {
         return Decision::Open;
     }
-    let a = table_a();
-    let b = table_b();
+    let known = known_deviation();
+    let unknown = unknown_deviation();
     let mut logs = [0u32; 4];
     put_four(&mut logs, limit, bytes, start, number, rows, 0);
     let level = logs[0] as u64;
@@ -82,8 +84,8 @@ pub(crate) fn column(
                 squares,
                 level,
                 deviation as u64,
-                &a,
-                &b,
+                &known,
+                &unknown,
             );
             match row {
                 Row::Open => {}

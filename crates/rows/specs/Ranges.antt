@@ -2,13 +2,13 @@
 use mathlib.Core.Path.{_≡_}
 use mathlib.Core.Bool.{Bool, false}
 use Prim.Native.Nat.{ℕ, _≤_}
-use Rattle.rules.specs.Plans.{Plan, lastRow}
+use Rattle.rules.specs.Plans.{Plan, attributes, lastRow}
 use Rattle.rules.specs.Refusals.{greatestDeviation}
 
--- the number of a row
+-- plan 3: the number of a row
 pub record RowRange (n : ℕ) : Type 0 where
   pub least : 3 ≤ n
-  pub most : n ≤ 32
+  pub most : n ≤ lastRow attributes
 
 -- the most of a logarithm, which is below 24 × 2^q: 24 × 2^20 serves also 20 squarings
 abbrev pub logarithmMost : ℕ
@@ -18,7 +18,10 @@ logarithmMost = 25165824
 abbrev pub sumMost : ℕ
 sumMost = 805306368
 
--- the largest number of the tables without its sign, plan 2's B at 3
+-- the largest number of each table without its sign: plan 1's B at 31, plan 2's B at 3
+abbrev pub knownMost : ℕ
+knownMost = 6571
+
 abbrev pub numberMost : ℕ
 numberMost = 1664743
 

@@ -10,9 +10,9 @@ ghost use Rattle.rules.specs.Logarithm.{squarings};
 ghost use Rattle.rules.specs.Plans as rules;
 ghost use Rattle.rows.specs.Row.{rowIs};
 ghost use Rattle.rows.specs.Ranges.{KnownRanges, RootRanges, NumberRanges, RowRange};
-ghost use Rattle.rows.specs.Tables.{Lent};
+ghost use Rattle.rows.specs.Tables.{knownNumbers, Lent, PassNumbers, FailNumbers};
 
-pub mod unknown;
+pub mod tables;
 
 use plan::Plan;
 
@@ -33,65 +33,71 @@ const LOG_OF_TWO: u64 = 693147181;
 const IN_SERVICE_LAST_A: u64 = 15474;
 
 // Plan 1, known deviation: "Pass if T × 693,147,181 > A × t × 65,536; fail if less than the same with B."
-// `added` is the sum of the measurements' logarithms and `level` the limit's logarithm, so T is n × level − added.
-// Each term that document 01 has with a minus stands on the other side, so that all is unsigned. The terms with n are `line`,
-// n times what is the same in every row. "A and B at 32 are −2112", which is −66 × 32, so row 32 has no other terms.
+// `added` is the sum of the measurements' logarithms and `level` the limit's logarithm, so T is n × level − added; `table` is the plan's, lent.
+// Each term that document 01 has with a minus stands on the other side, so that all is unsigned.
 // For `decisions` alone, with sums over the engines of an accepted sheet: so it may require.
-pub fn known_row(n: u64, added: u64, level: u64, deviation: u64) -> Row
+pub fn known_row(n: u64, table: &[[u32; 2]; 30], added: u64, level: u64, deviation: u64) -> Row
     requires { ⌜ KnownRanges n added level deviation ⌝ }
+    requires { ⌜ Lent knownNumbers (now table) ⌝ }
     ensures { λ r. ⌜ rowIs r ≡ rules.decide (rules.knownPasses squarings n (pos added -ℤ pos (n * level)) deviation)
         (eqb n (rules.lastRow rules.knownDeviation))
         (rules.knownFails squarings n (pos added -ℤ pos (n * level)) deviation) ⌝ }
 {
+    let i = (n - 3) as usize;
     let unit = deviation * LOGARITHM_UNIT;
     let above = added * LOG_OF_TWO;
-    let line = n * (level * LOG_OF_TWO + 66 * unit);
+    let line = n * (level * LOG_OF_TWO);
+    let pass = table[i][0] as u64 * unit;
+    // A is below 0 in the last row, and in no other.
     if n == Plan::KNOWN_DEVIATION_LAST_ROW as u64 {
-        return if above < line { Row::Pass } else { Row::Fail };
+        return if above < line + pass {
+            Row::Pass
+        } else {
+            Row::Fail
+        };
     }
-    // "A = 3327 − 66(n−3)", which is 3525 − 66n.
-    if above + 3525 * unit < line {
+    if above + pass < line {
         return Row::Pass;
     }
-    // "B = −4724 − 66(n−3), and 1 more from n = 10", which is −4526 − 66n.
-    if line + 4526 * unit < above + (10 <= n) as u64 * unit {
+    let fail = table[i][1] as u64 * unit;
+    if line + fail < above {
         return Row::Fail;
     }
     Row::Open
 }
 
-// Plan 2, unknown deviation. D is added − taken, W is `spread`; a and b are the tables of `unknown`, lent.
+// Plan 2, unknown deviation. D is added − taken, W is `spread`; `table` is the plan's, lent.
 // For `decisions` alone, with sums over the engines of an accepted sheet: so it may require.
-pub fn unknown_row(n: u64, a: &[u32; 30], b: &[u32; 30], added: u64, taken: u64, spread: u64) -> Row
+pub fn unknown_row(n: u64, table: &[[u32; 2]; 30], added: u64, taken: u64, spread: u64) -> Row
     requires { ⌜ RootRanges rules.unknownDeviation n added taken ⌝ }
-    requires { ⌜ Lent (now a) (now b) ⌝ }
+    requires { ⌜ Lent rules.unknownNumbers (now table) ⌝ }
     ensures { λ r. ⌜ rowIs r ≡ rules.decide (rules.rootPasses (rules.unknownNumbers n .A) (pos added -ℤ pos taken) (pos spread))
         (eqb n (rules.lastRow rules.unknownDeviation))
         (rules.rootFails (rules.unknownNumbers n .B) (pos added -ℤ pos taken) (pos spread)) ⌝ }
 {
     let i = (n - 3) as usize;
     let last = n == Plan::UNKNOWN_DEVIATION_LAST_ROW as u64;
-    root_row(last, a[i] as u64, b[i] as u64, added, taken, spread)
+    root_row(
+        last,
+        table[i][0] as u64,
+        table[i][1] as u64,
+        added,
+        taken,
+        spread,
+    )
 }
 
 // Plan 4, in service: "Rows as plan 2 up to 14; at 15, A is 15474."
 // For `decisions` alone, with sums over the engines of an accepted sheet: so it may require.
-pub fn in_service_row(
-    n: u64,
-    a: &[u32; 30],
-    b: &[u32; 30],
-    added: u64,
-    taken: u64,
-    spread: u64,
-) -> Row
+pub fn in_service_row(n: u64, table: &[[u32; 2]; 30], added: u64, taken: u64, spread: u64) -> Row
     requires { ⌜ RootRanges rules.inService n added taken ⌝ }
-    requires { ⌜ Lent (now a) (now b) ⌝ }
+    requires { ⌜ Lent rules.unknownNumbers (now table) ⌝ }
     ensures { λ r. ⌜ rowIs r ≡ rules.decide (rules.rootPasses (rules.inServiceNumbers n .A) (pos added -ℤ pos taken) (pos spread))
         (eqb n (rules.lastRow rules.inService))
         (rules.rootFails (rules.inServiceNumbers n .B) (pos added -ℤ pos taken) (pos spread)) ⌝ }
 {
     if n < Plan::IN_SERVICE_LAST_ROW as u64 {
-        return unknown_row(n, a, b, added, taken, spread);
+        return unknown_row(n, table, added, taken, spread);
     }
     // "for A ≥ 0, P ≤ 0 or P² ≤ A²W". In the last row, what doesn't pass fails.
     if added <= taken {
@@ -138,23 +144,26 @@ fn chosen(test: bool, x: u64, y: u64) -> u64
     if test { x } else { y }
 }
 
-// Plan 3, attributes: `over` is c, the number of engines over the limit.
+// Plan 3, attributes: `over` is c, the number of engines over the limit; `pass` and `fail` are the plan's columns, lent.
 // For `decisions` alone, with a row of an accepted sheet: so it may require.
-pub fn attributes_row(n: u64, over: u64) -> Row
+pub fn attributes_row(n: u64, pass: &[u8; 16], fail: &[u8; 17], over: u8) -> Row
     requires { ⌜ RowRange n ⌝ }
+    requires { ⌜ PassNumbers (now pass) ⌝ }
+    requires { ⌜ FailNumbers (now fail) ⌝ }
     ensures { λ r. ⌜ rowIs r ≡ rules.decide (rules.attributesPasses n over) (eqb n (rules.lastRow rules.attributes))
         (rules.attributesFails n over) ⌝ }
 {
-    // "At 19: pass up to 8, fail from 9."
+    // "never at n = 3": the pass numbers begin with row 4.
+    if 4 <= n {
+        if over <= pass[(n - 4) as usize] {
+            return Row::Pass;
+        }
+    }
+    // "In the last row, what doesn't pass fails."
     if n == Plan::ATTRIBUTES_LAST_ROW as u64 {
-        return if over <= 8 { Row::Pass } else { Row::Fail };
+        return Row::Fail;
     }
-    // "Pass if c ≤ (n−4)/2 rounded down, never at n = 3", which is c < (n−2)/2: 0 at 3.
-    if over < (n - 2) / 2 {
-        return Row::Pass;
-    }
-    // "fail if c ≥ n/2 rounded down + 2"
-    if n / 2 + 2 <= over {
+    if fail[(n - 3) as usize] <= over {
         return Row::Fail;
     }
     Row::Open

@@ -180,18 +180,17 @@ impl Paper {
         Chosen { sheet, report }
     }
 
-    /// The page's table against the printed columns. These leave plan 3's blank as -1, and have no
-    /// fail number in a last row, which needs none.
+    /// The page's table against the printed columns. These have no fail number in a last row, which
+    /// needs none.
     pub fn compare_with_printed(&self, tally: &mut Tally) {
         for plan in 1..=4 {
             for n in 3..=self.last_row(plan) {
                 let numbers = self.numbers(plan, n);
                 let printed = |column| Document01.number(plan, column, n).map(i128::from);
-                let pass = numbers.pass.or((plan == 3).then_some(-1));
                 let fail = numbers.fail.filter(|_| n < self.last_row(plan));
                 let expected = [printed(Column::Pass), printed(Column::Fail)];
                 let what = || format!("the numbers of docs/FORMAT.md, plan {plan}, row {n}");
-                tally.compare(&[], what, [pass, fail], expected);
+                tally.compare(&[], what, [numbers.pass, fail], expected);
             }
             let last = Document01.last_row(plan);
             let what = || format!("the last row of docs/FORMAT.md, plan {plan}");

@@ -1,6 +1,7 @@
 //! The decision numbers, typed as printed: tables I.1.5, I.2.5 and I.3.5 of document 001 and
-//! table 1 of document 000, from a sample of 3 on. The fail columns end a row early, because
-//! "in the last row, what doesn't pass fails".
+//! table 1 of document 000. The columns begin with a sample of 3, but plan 3's pass column, which
+//! is blank there, with 4. The fail columns end a row early, because "in the last row, what
+//! doesn't pass fails".
 
 #[derive(Clone, Copy, Debug, PartialEq, Eq)]
 pub enum Column {
@@ -8,19 +9,19 @@ pub enum Column {
     Fail,
 }
 
-/// A plan's number for a sample of n; none where its column has ended.
+/// A plan's number for a sample of n; none where its column has not begun or has ended.
 pub fn printed(plan: u8, column: Column, n: usize) -> Option<i64> {
-    let entries: &[i64] = match (plan, column) {
-        (1, Column::Pass) => &PLAN_1_PASS,
-        (1, Column::Fail) => &PLAN_1_FAIL,
-        (2, Column::Pass) => &PLAN_2_PASS,
-        (2, Column::Fail) => &PLAN_2_FAIL,
-        (3, Column::Pass) => &PLAN_3_PASS,
-        (3, Column::Fail) => &PLAN_3_FAIL,
-        (_, Column::Pass) => &PLAN_4_PASS,
-        (_, Column::Fail) => &PLAN_4_FAIL,
+    let (first, entries): (usize, &[i64]) = match (plan, column) {
+        (1, Column::Pass) => (3, &PLAN_1_PASS),
+        (1, Column::Fail) => (3, &PLAN_1_FAIL),
+        (2, Column::Pass) => (3, &PLAN_2_PASS),
+        (2, Column::Fail) => (3, &PLAN_2_FAIL),
+        (3, Column::Pass) => (4, &PLAN_3_PASS),
+        (3, Column::Fail) => (3, &PLAN_3_FAIL),
+        (_, Column::Pass) => (3, &PLAN_4_PASS),
+        (_, Column::Fail) => (3, &PLAN_4_FAIL),
     };
-    entries.get(n - 3).copied()
+    entries.get(n.checked_sub(first)?).copied()
 }
 
 /// Table I.1.5, thousandths.
@@ -46,8 +47,8 @@ const PLAN_2_FAIL: [i64; 29] = [
     11603, 9480, 7493, 5629,
 ];
 
-/// Table I.3.5, engines. The pass column is blank at 3: no count is that small.
-const PLAN_3_PASS: [i64; 17] = [-1, 0, 0, 1, 1, 2, 2, 3, 3, 4, 4, 5, 5, 6, 6, 7, 8];
+/// Table I.3.5, engines. The pass column from 4 on.
+const PLAN_3_PASS: [i64; 16] = [0, 0, 1, 1, 2, 2, 3, 3, 4, 4, 5, 5, 6, 6, 7, 8];
 const PLAN_3_FAIL: [i64; 16] = [3, 4, 4, 5, 5, 6, 6, 7, 7, 8, 8, 9, 9, 10, 10, 11];
 
 /// Table 1 of document 000, hundred-thousandths.

@@ -203,6 +203,15 @@ fn plan_3() -> Vec<Wrong> {
             }
         ),
         Wrong::new(
+            "plan 3: row 3 passes with none over the limit",
+            Number {
+                plan: 3,
+                column: Column::Pass,
+                n: 3,
+                is: 0,
+            },
+        ),
+        Wrong::new(
             "plan 3: row 19 passes up to 7",
             Number {
                 plan: 3,

@@ -12,14 +12,14 @@ use Rattle.decisions.proofs.count.column.Statement.{statement}
 use Rattle.decisions.proofs.count.column.Tie as tie
 
 abbrev Inv-loop : tie.InvT-loop
-Inv-loop bytes start number limit rows over₀ n₀ over n =
+Inv-loop bytes start number limit rows pass fail over₀ n₀ over n =
     (n ≤ rows) × (over ≡ countOver limit (measurementsOf bytes number n)) × ((t : ℕ) → columnIs Attributes bytes number limit t n ≡ isOpen)
 
 abbrev μ-loop : tie.MeasureT-loop
-μ-loop bytes start number limit rows over₀ n₀ over n = rows - n
+μ-loop bytes start number limit rows pass fail over₀ n₀ over n = rows - n
 
 entry : tie.In-loop Inv-loop μ-loop → tie.Start Inv-loop μ-loop
-entry c = c .before .before .before
+entry c = c .before .before .before .before .before
 
 -- the row is one of the plan
 row-most : (c : tie.In-loop Inv-loop μ-loop) → c .before .loop .n + 1 ≤ 19
@@ -36,13 +36,22 @@ more c =
     over-more (entry i .pre) (i .before .loop .n) t (i .before .loop .inv .1) (c .measured-or-one .ensures ∙ measured-in _ _ _ _ t)
 
 -- what the row decides
-told : (c : tie.After-attributes-row Inv-loop μ-loop) {s : Row} → c .attributes-row .result ≡ s → (t : ℕ) → let i = c .before .before .before in let a = entry i .args in
+told : (c : tie.After-attributes-row Inv-loop μ-loop) {s : Row} → c .attributes-row .result ≡ s → (t : ℕ) → let i = c .before .before .before .before .before in let a = entry i .args in
     Tells Attributes (a .bytes .now) (a .number) (a .limit) t (i .before .loop .n + 1) (a .rows) s
 unfolding entry
 told c e t =
-    let i = c .before .before .before in
+    let r = c .before .before .before in
+    let i = r .before .before in
     tells Attributes _ _ _ t _ _ (omega (arith, i .loop-test .taken))
-    (count-makes _ _ _ t (i .before .loop .n) (c .before .if1 .taken) (i .before .loop .inv .2 t) (more (c .before .before)) (c .attributes-row .ensures)) e
+    (count-makes _ _ _ t (i .before .loop .n) (r .if1 .taken) (i .before .loop .inv .2 t) (more (r .before)) (c .attributes-row .ensures)) e
+
+-- the row is one of the plan, and the lent numbers are the plan's
+row-requires : tie.Need-attributes-row-requires Inv-loop μ-loop
+row-requires c κs =
+    let r = c .before .before in
+    let i = r .before .before in
+    let q = i .before .before in
+    (record { least = r .if1 .taken; most = row-most i }, (q .before .pass-numbers .ensures, q .fail-numbers .ensures))
 
 pub column-spec : {M : Type 1} → statement M
 unfolding entry
@@ -50,20 +59,21 @@ column-spec =
     tie.close
     (tie.spec
     Inv-loop μ-loop
+    (λ c κs. search needs) (λ c κs. search needs)
     (λ c. (omega arith, refl, λ t. column-none Attributes _ _ _ t))
     (λ c κs. measured-range (entry c .pre))
     (λ c. search needs)
     (λ c. let i = c .before in omega (arith, more c, over-fits (entry i .pre) {n = i .before .loop .n + 1} (omega (arith, i .loop-test .taken)) (more c)))
     (λ c. omega (arith, row-most (c .before)))
-    (λ c κs. let l = row-most (c .before .before) in search needs)
+    row-requires
     (λ c. search needs)
-    (λ c. let t = c .before .before .before .before .before .loop-test .taken in omega arith)
-    (λ c. let r = c .before .before in (omega (arith, r .before .before .before .loop-test .taken), more (r .before .before), told r (c .enum-told .given .1)))
+    (λ c. let t = c .before .before .before .before .before .before .before .loop-test .taken in omega arith)
+    (λ c. let r = c .before .before in let m = r .before .before .before .before in (omega (arith, m .before .loop-test .taken), more m, told r (c .enum-told .given .1)))
     (λ c. search needs)
-    (λ c. omega (arith, row-most (c .before .before .before .before .before)))
+    (λ c. omega (arith, row-most (c .before .before .before .before .before .before .before)))
     (λ c. told (c .before .before) (c .enum-told2 .given .1))
     (λ c. search needs)
-    (λ c. omega (arith, row-most (c .before .before .before .before .before)))
+    (λ c. omega (arith, row-most (c .before .before .before .before .before .before .before)))
     (λ c. told (c .before .before) (c .enum-told3 .given .1))
     (λ c. let t = c .before .before .loop-test .taken in omega arith)
     (λ c. (omega (arith, c .before .before .loop-test .taken), more (c .before), λ t. early-open Attributes _ _ _ t _ (c .if1 .left)))

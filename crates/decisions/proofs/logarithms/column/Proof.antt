@@ -18,14 +18,14 @@ use Rattle.decisions.proofs.logarithms.column.Statement.{statement}
 use Rattle.decisions.proofs.logarithms.column.Tie as tie
 
 abbrev Inv-loop : tie.InvT-loop
-Inv-loop bytes start plan number limit deviation rows a b logs₀ level sum₀ squares₀ any₀ n₀ logs sum squares any n =
+Inv-loop bytes start plan number limit deviation rows known unknown logs₀ level sum₀ squares₀ any₀ n₀ logs sum squares any n =
     (n ≤ rows)
     × Logs logs bytes start number rows n
     × (columnIs plan bytes number limit deviation n ≡ isOpen)
     × Sums bytes number limit n level sum squares any
 
 abbrev μ-loop : tie.MeasureT-loop
-μ-loop bytes start plan number limit deviation rows a b logs₀ level sum₀ squares₀ any₀ n₀ logs sum squares any n = rows - n
+μ-loop bytes start plan number limit deviation rows known unknown logs₀ level sum₀ squares₀ any₀ n₀ logs sum squares any n = rows - n
 
 -- the function's entry, and the loop's body
 entry : tie.At-loop Inv-loop μ-loop → tie.Start Inv-loop μ-loop
@@ -114,7 +114,7 @@ row-requires c κs =
     let p = entry (i .before) .pre in
     let h : N f ≤ lastRow (planIs (entry (i .before) .args .plan)) = omega (arith, i .loop-test .taken, in-engines (p .column)) in (
       row-range (sums f .sums) (p .logs) (late _ _ _ (k .before .looks .ensures) (k .if2 .taken)) h (p .column .deviation),
-      record { a-holds = q .before .before .before .table-a .ensures; b-holds = q .before .before .table-b .ensures },
+      (record { holds = q .before .before .before .known-deviation .ensures }, record { holds = q .before .before .unknown-deviation .ensures }),
     )
 
 -- after a row that is open, and after one that is not looked at
