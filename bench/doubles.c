@@ -7,31 +7,45 @@
 #include <stdint.h>
 #include <string.h>
 
-enum { RECORD = 20, LONGEST_SHEET = 740, POLLUTANTS = 4, LARGEST = 9999999 };
+enum { RECORD = 20, LONGEST_SHEET = 740, POLLUTANTS = 4, PLANS = 5, LARGEST = 9999999 };
 enum { POLLUTANT = 1, ENGINE = 2, STOP = 3 };
 enum { OPEN = 0, PASS = 1, FAIL = 2, REFERRED = 3 };
 enum { BY_ROW = 1, BY_EQUAL_CAUSE = 2, BY_STOP = 3, BY_REFERRAL = 4 };
 
-static const int last_rows[] = {0, 32, 32, 19, 15};
+static const int last_rows[PLANS + 1] = {[1] = 32, [2] = 32, [3] = 19, [4] = 15, [5] = 32};
 
-static const double known_pass[] = {
-    3.327, 3.261, 3.195, 3.129, 3.063, 2.997, 2.931, 2.865, 2.799, 2.733,
-    2.667, 2.601, 2.535, 2.469, 2.403, 2.337, 2.271, 2.205, 2.139, 2.073,
-    2.007, 1.941, 1.875, 1.809, 1.743, 1.677, 1.611, 1.545, 1.479, -2.112};
-static const double known_fail[] = {
-    -4.724, -4.790, -4.856, -4.922, -4.988, -5.054, -5.120, -5.185, -5.251, -5.317,
-    -5.383, -5.449, -5.515, -5.581, -5.647, -5.713, -5.779, -5.845, -5.911, -5.977,
-    -6.043, -6.109, -6.175, -6.241, -6.307, -6.373, -6.439, -6.505, -6.571, -2.112};
-static const double unknown_pass[] = {
-    -0.80381, -0.76339, -0.72982, -0.69962, -0.67129, -0.64406, -0.61750, -0.59135,
-    -0.56542, -0.53960, -0.51379, -0.48791, -0.46191, -0.43573, -0.40933, -0.38266,
-    -0.35570, -0.32840, -0.30072, -0.27263, -0.24410, -0.21509, -0.18557, -0.15550,
-    -0.12483, -0.09354, -0.06159, -0.02892, -0.00449, -0.03876};
-static const double unknown_fail[] = {
-    16.64743, 7.68627, 4.67136, 3.25573, 2.45431, 1.94369, 1.59105, 1.33295,
-    1.13566, 0.97970, 0.85307, 0.74801, 0.65928, 0.58321, 0.51718, 0.45922,
-    0.40788, 0.36203, 0.32078, 0.28343, 0.24943, 0.21831, 0.18970, 0.16328,
-    0.13880, 0.11603, 0.09480, 0.07493, 0.05629, 0.03879};
+/* The decision numbers by plan, row 3 first. Plan 3 counts, and plan 4 has no fail number at 15;
+   in the last row what does not pass fails. */
+static const double pass_numbers[PLANS + 1][30] = {
+    [1] = {3.327, 3.261, 3.195, 3.129, 3.063, 2.997, 2.931, 2.865, 2.799, 2.733,
+           2.667, 2.601, 2.535, 2.469, 2.403, 2.337, 2.271, 2.205, 2.139, 2.073,
+           2.007, 1.941, 1.875, 1.809, 1.743, 1.677, 1.611, 1.545, 1.479, -2.112},
+    [2] = {-0.80381, -0.76339, -0.72982, -0.69962, -0.67129, -0.64406, -0.61750, -0.59135,
+           -0.56542, -0.53960, -0.51379, -0.48791, -0.46191, -0.43573, -0.40933, -0.38266,
+           -0.35570, -0.32840, -0.30072, -0.27263, -0.24410, -0.21509, -0.18557, -0.15550,
+           -0.12483, -0.09354, -0.06159, -0.02892, -0.00449, -0.03876},
+    [4] = {-0.80381, -0.76339, -0.72982, -0.69962, -0.67129, -0.64406, -0.61750, -0.59135,
+           -0.56542, -0.53960, -0.51379, -0.48791, 0.15474},
+    [5] = {-0.80381, -0.76339, -0.72982, -0.69962, -0.67129, -0.64406, -0.61750, -0.59135,
+           -0.56542, -0.53960, -0.51379, -0.48791, -0.46191, -0.43573, -0.40933, -0.38266,
+           -0.35570, -0.32840, -0.30072, -0.27263, -0.24410, -0.21509, -0.18557, -0.15550,
+           -0.12483, -0.09354, -0.06159, -0.02892, 0.00449, 0.03876},
+};
+static const double fail_numbers[PLANS + 1][30] = {
+    [1] = {-4.724, -4.790, -4.856, -4.922, -4.988, -5.054, -5.120, -5.185, -5.251, -5.317,
+           -5.383, -5.449, -5.515, -5.581, -5.647, -5.713, -5.779, -5.845, -5.911, -5.977,
+           -6.043, -6.109, -6.175, -6.241, -6.307, -6.373, -6.439, -6.505, -6.571, -2.112},
+    [2] = {16.64743, 7.68627, 4.67136, 3.25573, 2.45431, 1.94369, 1.59105, 1.33295,
+           1.13566, 0.97970, 0.85307, 0.74801, 0.65928, 0.58321, 0.51718, 0.45922,
+           0.40788, 0.36203, 0.32078, 0.28343, 0.24943, 0.21831, 0.18970, 0.16328,
+           0.13880, 0.11603, 0.09480, 0.07493, 0.05629, 0.03879},
+    [4] = {16.64743, 7.68627, 4.67136, 3.25573, 2.45431, 1.94369, 1.59105, 1.33295,
+           1.13566, 0.97970, 0.85307, 0.74801},
+    [5] = {16.64743, 7.68627, 4.67136, 3.25573, 2.45431, 1.94369, 1.59105, 1.33295,
+           1.13566, 0.97970, 0.85307, 0.74801, 0.65928, 0.58321, 0.51718, 0.45922,
+           0.40788, 0.36203, 0.32078, 0.28343, 0.24943, 0.21831, 0.18970, 0.16328,
+           0.13880, 0.11603, 0.09480, 0.07493, 0.05629, 0.03876},
+};
 
 struct series {
     int plan, declared, engines, highest, stopped;
@@ -79,7 +93,7 @@ static int pollutant_fault(const uint8_t *record, const struct series *series)
     uint32_t deviation = number_at(record, 8);
     if (number < 1 || number > POLLUTANTS || number <= series->highest)
         return 4;
-    if (plan < 1 || plan > 4 || (series->declared > 0 && plan != series->plan))
+    if (plan < 1 || plan > PLANS || (series->declared > 0 && plan != series->plan))
         return 5;
     if (!in_range(number_at(record, 4)))
         return 6;
@@ -153,20 +167,19 @@ static uint32_t check(const uint8_t *sheet, size_t length, struct series *series
 static int known_decision(const struct standing *standing, int n)
 {
     double statistic = -standing->sum / standing->deviation;
-    if (statistic > known_pass[n - 3])
+    if (statistic > pass_numbers[1][n - 3])
         return PASS;
-    return statistic < known_fail[n - 3] || n == 32 ? FAIL : OPEN;
+    return statistic < fail_numbers[1][n - 3] || n == 32 ? FAIL : OPEN;
 }
 
-static int unknown_decision(const struct standing *standing, int n, int last)
+static int unknown_decision(const struct standing *standing, int plan, int n)
 {
     double mean = standing->sum / n;
     double variance = standing->squares / n - mean * mean;
     double spread = variance > 0 ? sqrt(variance) : 0;
-    double pass = last == 15 && n == 15 ? 0.15474 : unknown_pass[n - 3];
-    if (mean <= pass * spread)
+    if (mean <= pass_numbers[plan][n - 3] * spread)
         return PASS;
-    return mean >= unknown_fail[n - 3] * spread || n == last ? FAIL : OPEN;
+    return mean >= fail_numbers[plan][n - 3] * spread || n == last_rows[plan] ? FAIL : OPEN;
 }
 
 static int attribute_decision(const struct standing *standing, int n)
@@ -180,8 +193,11 @@ static int decision(const struct standing *standing, int plan, int n)
 {
     switch (plan) {
     case 1: return known_decision(standing, n);
+    case 2:
+    case 4:
+    case 5: return unknown_decision(standing, plan, n);
     case 3: return attribute_decision(standing, n);
-    default: return unknown_decision(standing, n, last_rows[plan]);
+    default: return OPEN;
     }
 }
 

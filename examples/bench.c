@@ -6,7 +6,7 @@
  *
  * LINES
  *
- *     plan N                              1 to 4, before the limits
+ *     plan N                              1 to 5, before the limits
  *     limit POLLUTANT LIMIT [DEVIATION]   pollutant co, hc, nox, pm or a number; limit in
  *                                         thousandths of its unit; deviation in millionths,
  *                                         plan 1 only
@@ -91,7 +91,7 @@ static const char HELP[] =
     "usage: bench [-o FILE] < lines\n"
     "\n"
     "lines:\n"
-    "  plan N                              1 to 4, before the limits\n"
+    "  plan N                              1 to 5, before the limits\n"
     "  limit POLLUTANT LIMIT [DEVIATION]   pollutant co, hc, nox, pm or a number; limit in\n"
     "                                      thousandths of its unit; deviation in millionths,\n"
     "                                      plan 1 only\n"
@@ -165,8 +165,8 @@ static const char *read_plan(struct test *test, char **words, size_t count)
     if (fault != NULL) {
         return fault;
     }
-    if (plan < CONFORMITY_PLAN_KNOWN_DEVIATION || plan > CONFORMITY_PLAN_IN_SERVICE) {
-        return "the plan is not 1 to 4";
+    if (plan < CONFORMITY_PLAN_KNOWN_DEVIATION || plan > CONFORMITY_PLAN_CORRECTED) {
+        return "the plan is not 1 to 5";
     }
     if (test->plan != 0 && test->plan != plan) {
         return "a second plan, unlike the first";

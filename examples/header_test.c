@@ -45,6 +45,7 @@ static void constants(void)
     CHECK(CONFORMITY_NITROGEN_OXIDES == 3 && CONFORMITY_PARTICULATES == 4);
     CHECK(CONFORMITY_PLAN_KNOWN_DEVIATION == 1 && CONFORMITY_PLAN_UNKNOWN_DEVIATION == 2);
     CHECK(CONFORMITY_PLAN_ATTRIBUTES == 3 && CONFORMITY_PLAN_IN_SERVICE == 4);
+    CHECK(CONFORMITY_PLAN_CORRECTED == 5);
     CHECK(CONFORMITY_VERDICT_ANOTHER == 0 && CONFORMITY_VERDICT_PASS == 1);
     CHECK(CONFORMITY_VERDICT_FAIL == 2 && CONFORMITY_VERDICT_REFERRED == 3);
     CHECK(CONFORMITY_GROUND_NONE == 0 && CONFORMITY_GROUND_ROW == 1);
@@ -387,6 +388,37 @@ static void referral(void)
                  CONFORMITY_DECISION_OPEN);
 }
 
+/* Of limit 2000: 2000, then fifteen times 4000, 1000. */
+static void thirty_one_engines(uint32_t plan)
+{
+    int i;
+    new_sheet();
+    CHECK(append_pollutant(4, plan, 2000, 0) == 0);
+    CHECK(append_engine(2000, 0) == 0);
+    for (i = 0; i < 15; i++) {
+        CHECK(append_engine(4000, 0) == 0);
+        CHECK(append_engine(1000, 0) == 0);
+    }
+}
+
+/* Row 31 passes in the corrected sheet alone. A stop is taken as in plan 2, and no plan is 6. */
+static void corrected_sheet(void)
+{
+    thirty_one_engines(CONFORMITY_PLAN_UNKNOWN_DEVIATION);
+    CHECK_REPORT(CONFORMITY_VERDICT_ANOTHER, CONFORMITY_GROUND_NONE, 31, CONFORMITY_DECISION_OPEN);
+    CHECK(append_stop() == 0);
+    CHECK_REPORT(CONFORMITY_VERDICT_FAIL, CONFORMITY_GROUND_STOPPED, 31, CONFORMITY_DECISION_OPEN);
+
+    thirty_one_engines(CONFORMITY_PLAN_CORRECTED);
+    CHECK_REPORT(CONFORMITY_VERDICT_PASS, CONFORMITY_GROUND_ROW, 31, CONFORMITY_DECISION_PASS);
+    CHECK(append_stop() == 0);
+    CHECK_REPORT(CONFORMITY_VERDICT_PASS, CONFORMITY_GROUND_ROW, 31, CONFORMITY_DECISION_PASS);
+
+    new_sheet();
+    CHECK(append_pollutant(4, CONFORMITY_PLAN_CORRECTED + 1, 2000, 0) ==
+          code_of(CONFORMITY_REFUSED_PLAN, 0));
+}
+
 /* ---- Declared values ---- */
 
 struct declared_case {
@@ -452,6 +484,7 @@ int main(void)
     longest_sheet();
     verdicts();
     referral();
+    corrected_sheet();
     declared_values();
     printf("%u passed, %u failed\n", passed, failed);
     return failed == 0 ? 0 : 1;

@@ -106,9 +106,11 @@ enum conformity_pollutant {
 /* The plan decides at the 3rd engine at the earliest, and at its last row at the latest. */
 enum conformity_plan {
     CONFORMITY_PLAN_KNOWN_DEVIATION = 1,   /* 96/1/EC Appendix 1; last row 32 */
-    CONFORMITY_PLAN_UNKNOWN_DEVIATION = 2, /* 96/1/EC Appendix 2; last row 32 */
+    CONFORMITY_PLAN_UNKNOWN_DEVIATION = 2, /* 96/1/EC Appendix 2, as printed: for sheets begun
+                                              under it; last row 32 */
     CONFORMITY_PLAN_ATTRIBUTES = 3,        /* 96/1/EC Appendix 3; last row 19 */
-    CONFORMITY_PLAN_IN_SERVICE = 4         /* COM(97) 77 Appendix 1; last row 15 */
+    CONFORMITY_PLAN_IN_SERVICE = 4,        /* COM(97) 77 Appendix 1; last row 15 */
+    CONFORMITY_PLAN_CORRECTED = 5          /* plan 2 with rows 31 and 32 corrected; last row 32 */
 };
 
 /* ---- What a report says ------------------------------------------------- */
@@ -157,7 +159,7 @@ enum conformity_refusal {
     CONFORMITY_REFUSED_ORDER = 3,
     /* The pollutant number is not 1 to 4, or not above the one before. */
     CONFORMITY_REFUSED_POLLUTANT = 4,
-    /* The plan is not 1 to 4, or unlike the first pollutant's. */
+    /* The plan is not 1 to 5, or unlike the first pollutant's. */
     CONFORMITY_REFUSED_PLAN = 5,
     /* The limit is not 1 to 9,999,999. */
     CONFORMITY_REFUSED_LIMIT = 6,
@@ -275,7 +277,7 @@ static inline const char *conformity_refusal_text(uint32_t number)
     case CONFORMITY_REFUSED_POLLUTANT:
         return "the pollutant number is not 1 to 4, or not above the one before";
     case CONFORMITY_REFUSED_PLAN:
-        return "the plan is not 1 to 4, or unlike the first pollutant's";
+        return "the plan is not 1 to 5, or unlike the first pollutant's";
     case CONFORMITY_REFUSED_LIMIT:
         return "the limit is not 1 to 9999999";
     case CONFORMITY_REFUSED_DEVIATION:

@@ -1,5 +1,5 @@
-/* Writes the sample sheets, the lines that document 01 gives for each and, for a refused one, what `verdict` says of it
-   to people: NAME.sheet, NAME.lines and NAME.why, into the folder named. The lines are typed here from the document and
+/* Writes the sample sheets, the lines that the documents give for each and, for a refused one, what `verdict` says of it
+   to people: NAME.sheet, NAME.lines and NAME.why, into the folder named. The lines are typed here from the documents and
    not computed; a refusal's sentence is that of the header, with which the program's has to agree. */
 #include <conformity.h>
 
@@ -48,6 +48,14 @@ static void engine(uint32_t cause, uint32_t co, uint32_t hc, uint32_t nox, uint3
 /* Engines measured for pollutant 1 alone. */
 static void measured(int engines, uint32_t x) {
     while (engines-- > 0) engine(0, x, 0, 0, 0);
+}
+
+/* So many times 4000, 1000. */
+static void pairs(int count) {
+    while (count-- > 0) {
+        measured(1, 4000);
+        measured(1, 1000);
+    }
 }
 
 static void stop(void) {
@@ -147,7 +155,32 @@ static void on_a_line(void) {
     sample("stop-at-0", "fail 0 3\n1 open 0\n");
 }
 
-/* The grounds, rows and lines that the list above leaves out. */
+/* Document 02, F-6: the same series of limit 2000 under plan 5, the corrected sheet, and under plan 2. */
+static void corrected(void) {
+    static const struct {
+        uint32_t plan;
+        const char *first, *last;
+    } answers[] = {
+        {5, "pass 31 1\n1 pass 31\n", "pass 32 1\n1 pass 32\n"},
+        {2, "another 31 0\n1 open 0\n", "fail 32 1\n1 fail 32\n"},
+    };
+    for (int i = 0; i < 2; i++) {
+        char name[32];
+        /* 2000, then fifteen times 4000, 1000 */
+        pollutant(1, answers[i].plan, 2000, 0);
+        measured(1, 2000);
+        pairs(15);
+        snprintf(name, sizeof name, "plan-%u-row-31", answers[i].plan);
+        sample(name, answers[i].first);
+        /* sixteen times 4000, 1000 */
+        pollutant(1, answers[i].plan, 2000, 0);
+        pairs(16);
+        snprintf(name, sizeof name, "plan-%u-row-32", answers[i].plan);
+        sample(name, answers[i].last);
+    }
+}
+
+/* The grounds, rows and lines that the lists above leave out. */
 static void others(void) {
     /* Stopped after two engines, of two pollutants. */
     pollutant(2, 2, 150, 0);
@@ -239,6 +272,8 @@ static void refusals(void) {
     pollutant(2, 3, 150, 0);
     pollutant(3, 2, 150, 0);
     refused("refused-05", 5, 1, "pollutant 3");
+    pollutant(1, 6, 2000, 0);
+    refused("refused-05-plan-6", 5, 0, "pollutant 1");
     pollutant(2, 3, 10000000, 0);
     refused("refused-06", 6, 0, "pollutant 2");
     pollutant(2, 1, 10000, 4000001);
@@ -268,6 +303,7 @@ int main(int count, char **words) {
     }
     folder = words[1];
     on_a_line();
+    corrected();
     others();
     refusals();
     return 0;

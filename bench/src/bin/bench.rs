@@ -4,7 +4,7 @@
 use bench::sheets;
 use bench::timing::{against, time};
 use entries::{conformity_append, conformity_report};
-use second::{append, report, Document, Document01, Refusal, RECORD, REPORT};
+use second::{append, report, Document, Document01, Refusal, PLANS, RECORD, REPORT};
 use std::ffi::c_void;
 use std::hint::black_box;
 
@@ -116,7 +116,7 @@ fn typical_by_doubles(plan: u8) -> f64 {
 
 fn print_reports() {
     println!("report, time of the library by that of the second implementation, and of doubles:");
-    for plan in 1..=4 {
+    for plan in 1..=PLANS {
         let sheets = sheets::full(plan, Document01.last_row(plan), SHEETS);
         print_report(
             &format!("plan {plan}, full sheets"),
@@ -124,7 +124,7 @@ fn print_reports() {
             full_by_doubles(plan),
         );
     }
-    for plan in 1..=4 {
+    for plan in 1..=PLANS {
         let sheets = sheets::typical(plan, SHEETS);
         print_report(
             &format!("plan {plan}, typical sheets"),
@@ -195,7 +195,10 @@ fn print_append() {
         &mut appending(second_append),
     ]);
     println!("append of the 32nd engine, time of the library:");
-    println!("  by the second {}", against(times.ratio(0, 1), PART_BY_SECOND));
+    println!(
+        "  by the second {}",
+        against(times.ratio(0, 1), PART_BY_SECOND)
+    );
 }
 
 /// Everything that report and append are timed on, once.
@@ -211,8 +214,8 @@ fn call_all(report: Report, append: Append, sheets: &mut [Vec<u8>]) {
 }
 
 fn all_sheets() -> Vec<Vec<u8>> {
-    let full = (1..=4).flat_map(|plan| sheets::full(plan, Document01.last_row(plan), SHEETS));
-    let typical = (1..=4).flat_map(|plan| sheets::typical(plan, SHEETS));
+    let full = (1..=PLANS).flat_map(|plan| sheets::full(plan, Document01.last_row(plan), SHEETS));
+    let typical = (1..=PLANS).flat_map(|plan| sheets::typical(plan, SHEETS));
     full.chain(typical)
         .chain([sheets::refused_at_the_end()])
         .collect()

@@ -3,6 +3,7 @@ use Rattle.arithmetic.proofs.Basics.{ℕ, arith, _≡_, refl, sym, Bool, true, 
 use Rattle.arithmetic.proofs.Basics.{ne-eqb, in-range, never, by-test, any-last}
 use Rattle.rules.specs.Tools.{within}
 use Rattle.rules.specs.Sheet.{Record, Pollutant, pollutantKind, engineKind, kind, cause, ofKind, engines, planNumber, declared, gross}
+use Rattle.rules.specs.Plans.{inService, numberOf}
 use Rattle.rules.specs.Refusals.{misplaced, badMeasurement, badCause, greatestCause}
 use Rattle.accepted.proofs.Faultless.{Clean, faultless, isOther, ofKind-append, no-pollutants}
 
@@ -13,10 +14,10 @@ abbrev pub Caused : (inService : Bool) → List Pollutant → List Record → Ty
 Caused b ps [] = Unit {0}
 Caused b ps (e ∷ es) = (b && gross ps e ≡ hasCause e) × Caused b ps es
 
-cause-fine : (n : ℕ) (ps : List Pollutant) (r : Record) → badCause n ps r ≡ false → eqb n 4 && gross ps r ≡ hasCause r
+cause-fine : (n : ℕ) (ps : List Pollutant) (r : Record) → badCause n ps r ≡ false → eqb n (numberOf inService) && gross ps r ≡ hasCause r
 unfolding badCause
 cause-fine n ps r e =
-    by-test (λ t. cond t (not (within 1 greatestCause (cause r))) (hasCause r) ≡ false → t ≡ hasCause r) (eqb n 4 && gross ps r)
+    by-test (λ t. cond t (not (within 1 greatestCause (cause r))) (hasCause r) ≡ false → t ≡ hasCause r) (eqb n (numberOf inService) && gross ps r)
     (λ q f. rw (ne-eqb (cause r) 0 (λ z. omega (arith, in-range 1 greatestCause (cause r) f))) refl) (λ q f. sym f) e
 
 -- pollutants and plan are those of the records before an engine
@@ -47,5 +48,5 @@ each-engine w before (r ∷ rs) c Q none more =
     more r (ofKind engineKind rs) (rw d (f .measured e)) (rw (plan-append before (r ∷ rs) r o (f .placed), d) (f .caused e)) rest)
     (λ e. rest)
 
-pub causes : (w : ℕ) (rs : List Record) → Clean w [] rs → Caused (eqb (planNumber rs) 4) (declared rs) (engines rs)
-causes w rs c = each-engine w [] rs c (Caused (eqb (planNumber rs) 4) (declared rs)) tt (λ r es m f q. (cause-fine (planNumber rs) (declared rs) r f, q))
+pub causes : (w : ℕ) (rs : List Record) → Clean w [] rs → Caused (eqb (planNumber rs) (numberOf inService)) (declared rs) (engines rs)
+causes w rs c = each-engine w [] rs c (Caused (eqb (planNumber rs) (numberOf inService)) (declared rs)) tt (λ r es m f q. (cause-fine (planNumber rs) (declared rs) r f, q))

@@ -4,7 +4,7 @@ use Rattle.arithmetic.proofs.Basics.{append-assoc, append-nil, eqb, length, get
 use Rattle.arithmetic.proofs.Basics.{not-false, leb-false, in-range, by-test}
 use Rattle.rules.specs.Sheet.{Record, pollutants, recordSize, mostRecords, records, pollutantKind, engineKind, stopKind, kind, plan, ofKind, engines, pollutant}
 use Rattle.rules.specs.Sheet.{declared, planNumber}
-use Rattle.rules.specs.Plans.{Plan, knownDeviation, unknownDeviation, attributes, inService, planOf, lastRow, planCount}
+use Rattle.rules.specs.Plans.{Plan, knownDeviation, unknownDeviation, attributes, inService, corrected, planOf, lastRow, planCount, numberOf}
 use Rattle.rules.specs.Refusals.{misplaced, badPlan, tooMany}
 use Rattle.accepted.specs.Sheets.{recordAt, pollutantsIn, enginesIn, AcceptedSheet}
 use Rattle.accepted.proofs.Records.{record-at, whole-records, length-records}
@@ -25,7 +25,7 @@ unfolding declared ofKind
 some-declared w [] l c = absurd (omega arith)
 some-declared w (r ∷ rs) l c = rw (first-kind w r rs c) (omega arith)
 
--- "5, plan not 1 to 4"
+-- "5, plan not 1 to 4"; 02, F-6: "Refusal 5 admits plan 5."
 plan-range : (w : ℕ) (rs : List Record) → 1 ≤ length rs → Clean w [] rs → (1 ≤ planNumber rs) × (planNumber rs ≤ planCount)
 unfolding planNumber badPlan
 plan-range w [] l c = absurd (omega arith)
@@ -37,16 +37,34 @@ isInService knownDeviation = false
 isInService unknownDeviation = false
 isInService attributes = false
 isInService inService = true
+isInService corrected = false
+
+-- each number that the check lets pass is its plan's, and each plan is its number's
+pub number-of-plan : (n : ℕ) → 1 ≤ n → n ≤ planCount → numberOf (planOf n) ≡ n
+unfolding planOf
+number-of-plan zero l u = absurd (omega arith)
+number-of-plan (suc zero) l u = refl
+number-of-plan (suc (suc zero)) l u = refl
+number-of-plan (suc (suc (suc zero))) l u = refl
+number-of-plan (suc (suc (suc (suc zero)))) l u = refl
+number-of-plan (suc (suc (suc (suc (suc zero))))) l u = refl
+number-of-plan (suc (suc (suc (suc (suc (suc n)))))) l u = absurd (omega arith)
+
+pub plan-of-number : (plan : Plan) → planOf (numberOf plan) ≡ plan
+unfolding planOf
+plan-of-number knownDeviation = refl
+plan-of-number unknownDeviation = refl
+plan-of-number attributes = refl
+plan-of-number inService = refl
+plan-of-number corrected = refl
 
 -- plan 4 is the one in service
-service-number : (n : ℕ) → 1 ≤ n → n ≤ planCount → isInService (planOf n) ≡ eqb n 4
-unfolding planOf
-service-number zero l u = absurd (omega arith)
-service-number (suc zero) l u = refl
-service-number (suc (suc zero)) l u = refl
-service-number (suc (suc (suc zero))) l u = refl
-service-number (suc (suc (suc (suc zero)))) l u = refl
-service-number (suc (suc (suc (suc (suc n))))) l u = absurd (omega arith)
+service-number : (plan : Plan) → isInService plan ≡ eqb (numberOf plan) (numberOf inService)
+service-number knownDeviation = refl
+service-number unknownDeviation = refl
+service-number attributes = refl
+service-number inService = refl
+service-number corrected = refl
 
 -- ---- "10, more engines than the last row"
 
@@ -55,6 +73,7 @@ last-most knownDeviation = omega arith
 last-most unknownDeviation = omega arith
 last-most attributes = omega arith
 last-most inService = omega arith
+last-most corrected = omega arith
 
 pub engines-after : (w : ℕ) (before rs : List Record) → Clean w before rs → length (engines before) ≤ lastRow (planOf (planNumber (before ++ rs)))
     → length (engines (before ++ rs)) ≤ lastRow (planOf (planNumber (before ++ rs)))
@@ -128,4 +147,4 @@ module _ {b : List ℕ} {plan : Plan} {start : ℕ} (s : AcceptedSheet b plan st
   pub caused : Caused (isInService plan) (pollutantsIn b) es
   caused =
       let r = plan-range pollutants rs some-record clean in
-      rw (s .planned, service-number (planNumber rs) (r .0) (r .1)) (causes pollutants rs clean)
+      rw (s .planned, service-number (planOf (planNumber rs)), number-of-plan (planNumber rs) (r .0) (r .1)) (causes pollutants rs clean)

@@ -7,10 +7,10 @@ use mathlib.Core.Logic.{_↔_}
 use Prim.Native.Nat.{ℕ, zero, suc, _+_, _-_, _*_, _≤_, _<_}
 use native.Mathlib.Omega.{arith}
 use lib.Dec.{ltb, leb}
-use lib.IntN.{ℤ, pos, negsuc, negℤ, subℕ, _+ℤ_, _-ℤ_, _*ℤ_}
+use lib.IntN.{ℤ, pos, negsuc, negℤ, natAbs, subℕ, _+ℤ_, _-ℤ_, _*ℤ_}
 use lib.Signed.{ltZ, leZ}
 use borrow.Author.Tests.{lt-ltb, le-ltb, le-leb, lt-leb, ltb-true, ltb-false, leb-true}
-use Rattle.arithmetic.proofs.Booleans.{by-test}
+use Rattle.arithmetic.proofs.Booleans.{by-test, never}
 use Rattle.arithmetic.proofs.Order.{ltb-same, leb-same}
 
 abbrev pub IsDiff : ℤ → ℕ → ℕ → Type 0
@@ -115,3 +115,12 @@ pub diff-of : (z : ℤ) → Diff z (plus z) (minus z)
 unfolding plus minus
 diff-of (pos n) = diff-pos n
 diff-of (negsuc n) = record { is = omega arith }
+
+-- by its sign
+pub diff-below : (z : ℤ) → ltZ z (pos 0) ≡ true → Diff z 0 (natAbs z)
+diff-below (pos n) e = absurd (omega (arith, lt-fact (diff-pos n) (diff-pos 0) e))
+diff-below (negsuc n) e = record { is = omega arith }
+
+pub diff-above : (z : ℤ) → ltZ z (pos 0) ≡ false → Diff z (natAbs z) 0
+diff-above (pos n) e = diff-pos n
+diff-above (negsuc n) e = never e

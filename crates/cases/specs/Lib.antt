@@ -1,4 +1,5 @@
 pub mod Bytes
 pub mod Printing
 pub mod Table
+pub mod Corrected
 pub mod DeclaredValue

@@ -29,7 +29,7 @@ b ↦→ a = record { sheet = b; answer = a }
 
 infix 20 _↦→_
 -- an answer in which pollutant 1 alone may be decided
-abbrev one : (verdict engine ground decision decidedAt : ℕ) → Answer
+abbrev pub one : (verdict engine ground decision decidedAt : ℕ) → Answer
 one v n ground decision at = judgement v n ground (pair decision at ∷ replicate 3 (pair 0 0))
 
 table : List Case
@@ -70,6 +70,7 @@ table =
     -- refusals 4 to 7, of a pollutant
     ∷ (pollutant 2 3 150 0 ++ pollutant 2 3 150 0 ↦→ refusal 4 1)
     ∷ (pollutant 2 3 150 0 ++ pollutant 3 2 150 0 ↦→ refusal 5 1)
+    ∷ (pollutant 1 6 150 0 ↦→ refusal 5 0)
     ∷ (pollutant 2 3 10000000 0 ↦→ refusal 6 0)
     ∷ (pollutant 2 1 10000 4000001 ↦→ refusal 7 0)
     -- refusals 8 to 10, of an engine
@@ -80,6 +81,11 @@ table =
     ∷ (pollutant 1 4 10000 0 ++ stop ↦→ refusal 11 1)
     ∷ (pollutant 1 3 150 0 ++ 2 ∷ 1 ∷ replicate 18 0 ↦→ refusal 8 1)
     ∷ (pollutant 1 3 150 0 ++ 3 ∷ 1 ∷ replicate 18 0 ↦→ refusal 12 1)
+    -- 02, F-6, plan 5, "otherwise as plan 2": no deviation, no cause, a last row of 32, and a stop
+    ∷ (pollutant 1 5 150 1 ↦→ refusal 7 0)
+    ∷ (pollutant 1 5 150 0 ++ engine 3 300 0 0 0 ↦→ refusal 9 1)
+    ∷ (pollutant 1 5 150 0 ++ times 33 (measured 150) ↦→ refusal 10 33)
+    ∷ (pollutant 1 5 150 0 ++ stop ↦→ one 2 0 3 0 0)
     -- two series of seven engines that one C library's logarithm passes at 7 and another's leaves open, each in its own way
     ∷ (pollutant 1 1 7244722 217432 ++ measured 6054011 ++ measured 7125279 ++ measured 7809388 ++ measured 7501976 ++ measured 5847897 ++ measured 5300524 ++ measured 6870023 ↦→ one 1 7 1 1 7)
     ∷ (pollutant 1 1 6273177 358586 ++ measured 5905477 ++ measured 5140553 ++ measured 6640553 ++ measured 6153108 ++ measured 3863460 ++ measured 4805799 ++ measured 5534779 ↦→ one 1 7 1 1 7)

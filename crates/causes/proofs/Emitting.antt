@@ -5,7 +5,7 @@ use Rattle.arithmetic.proofs.Basics.{and-never, by-test, not-ltb, any-snoc, tho
 use mir.Val.{boolByte}
 use Rattle.rules.specs.Tools.{any, those}
 use Rattle.rules.specs.Sheet.{Record, Pollutant, cause, gross}
-use Rattle.rules.specs.Plans.{Plan, knownDeviation, unknownDeviation, attributes, inService, Row}
+use Rattle.rules.specs.Plans.{Plan, knownDeviation, unknownDeviation, attributes, inService, corrected, Row}
 use Rattle.rules.specs.Series as rules
 use Rattle.accepted.proofs.Causes.{hasCause, Caused}
 use Rattle.accepted.proofs.Sheets.{isInService}
@@ -82,7 +82,7 @@ module _ (ps : List Pollutant) (n : ℕ) (first : List Record) where
   caused-asked b true c = c
   caused-asked b false c = caused-cut b ps (n - 1) first c .1
 
-  -- in plans 1 to 3 there is no cause
+  -- in plans 1 to 3 and 5 there is no cause
   plain : Caused false ps first → cond (ltb n 3) rules.early rules.statistics ≡ beforeBy n first
   plain c =
       rw (
@@ -100,6 +100,7 @@ module _ (ps : List Pollutant) (n : ℕ) (first : List Record) where
   before-is attributes c = plain c
   before-is inService c =
       rw (those-gross ps first c, any-gross ps (cond (eqb n 3) first (drop (n - 1) first)) (caused-asked true (eqb n 3) c)) refl
+  before-is corrected c = plain c
 
 -- a row ends the series from row 3 on, by equal cause or referral
 pub closes-pick : (a b c d : Bool) → closes (pick a b c d) ≡ not a && (b || c)

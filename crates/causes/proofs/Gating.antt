@@ -17,7 +17,7 @@ use Rattle.causes.specs.Causes.{equalCauses, emittersIn, repeatsIn, befo
 use Rattle.causes.specs.Ranges.{InServiceRange}
 use Rattle.causes.proofs.Emitting.{any-those, those-not, those-next, count-next, caused-cut, leftBy, beforeBy, before-is, closes-pick}
 
--- plans 1 to 3: what comes before a row's statistics ends no series
+-- plans 1 to 3 and 5: what comes before a row's statistics ends no series
 pub plain-gate : (plan : Plan) (b : List ℕ) (n : ℕ) → ((k : ℕ) (first : List Record) → rules.planBefore plan (pollutantsIn b) k first ≡ rules.statistics)
     → openAfter n ≡ gateOf plan b n
 unfolding rules.beforeRow

@@ -94,7 +94,7 @@ fn in_service_gate(bytes: &[u8], start: usize, engines: usize) -> Gate
     Gate::Open(engines as u8)
 }
 
-// The rows of an accepted sheet; plans 1 to 3 end no series before a row's statistics. For `series` alone, which has checked the sheet: so it may require.
+// The rows of an accepted sheet; plans 1 to 3 and 5 end no series before a row's statistics. For `series` alone, which has checked the sheet: so it may require.
 pub fn gate_of(bytes: &[u8], start: usize, engines: usize, plan: Plan) -> Gate
     requires { ⌜ GateRange (now bytes) start engines plan ⌝ }
     ensures { λ g. ⌜ gateIs g ≡ gateOf (planIs plan) (now (bytes .entry)) engines ⌝ }
@@ -104,5 +104,6 @@ pub fn gate_of(bytes: &[u8], start: usize, engines: usize, plan: Plan) -> Gate
         Plan::UnknownDeviation => Gate::Open(engines as u8),
         Plan::Attributes => Gate::Open(engines as u8),
         Plan::InService => in_service_gate(bytes, start, engines),
+        Plan::Corrected => Gate::Open(engines as u8),
     }
 }

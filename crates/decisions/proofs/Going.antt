@@ -127,7 +127,7 @@ module _ {b : List ℕ} {start : ℕ} {plan : Plan} {p L t rows : ℕ} (range : 
         → over + boolByte (ltb L x) ≡ countOver L (measurementsOf b p (n + 1))
     over-more f e = rw (e, add-one n, more, count-snoc L (measurementsOf b p n) (measurement r p), f) refl
 
-    -- plans 1, 2 and 4
+    -- plans 1, 2, 4 and 5
     module _ {level sum squares : ℕ} {some : Bool} (f : Sums b p L n level sum squares some) {x y : ℕ} (xe : x ≡ cause r) (ye : y ≡ g squarings (measurement r p)) where
       pub sums-more : Sums b p L (n + 1) level (sum + y) (squares + y * y) (some || not (eqb x 0))
       sums-more =

@@ -1,5 +1,5 @@
 -- The sums that a column makes: with one engine more, and that they stay in their types.
-use Rattle.arithmetic.proofs.Basics.{ℕ, _+_, _*_, _≤_, arith, mul-le-mul, mul-le-mul-right, _≡_, refl, cond, List, [], _∷_, _++_, ltb, length, length-append}
+use Rattle.arithmetic.proofs.Basics.{ℕ, _+_, _*_, _≤_, arith, mul-le-mul, mul-le-mul-right, _≡_, refl, true, cond, List, [], _∷_, _++_, ltb, length, length-append}
 use Rattle.arithmetic.proofs.Basics.{by-test, those-append}
 use mir.Val.{boolByte}
 use Rattle.rules.specs.Logarithm.{squarings, g}
@@ -8,12 +8,11 @@ use Rattle.rules.specs.Refusals.{greatestDeviation}
 use Rattle.accepted.proofs.Sheets.{last-most}
 use Rattle.logarithm.proofs.Bounds.{g-fits}
 use Rattle.plan.specs.declared.Plan.{Plan}
-use Rattle.plan.specs.declared.Plan.the-variants.{Attributes}
 use Rattle.plan.specs.Plan.{planIs}
 use Rattle.rows.specs.Sums.{sumG, squaresG}
 use Rattle.rows.proofs.Sums.{cauchy}
 use Rattle.decisions.specs.Column.{SumsOf}
-use Rattle.decisions.specs.Ranges.{highest, RowRange}
+use Rattle.decisions.specs.Ranges.{highest, takesLogarithms, RowRange}
 
 -- ---- one more measurement
 
@@ -46,7 +45,7 @@ module _ {L : ℕ} {xs : List ℕ} {n sum squares level : ℕ} (s : SumsOf L xs 
       let k : length xs ≤ 32 = omega (arith, s .count) in
       (omega (arith, s .sumIs, m .0, mul-le-mul-right highest k), omega (arith, s .squaresIs, m .1, mul-le-mul-right (highest * highest) k))
 
-  pub row-range : {plan : Plan} {t : ℕ} → (plan ≡ Attributes → ⊥) → 3 ≤ n → n ≤ lastRow (planIs plan) → t ≤ greatestDeviation
+  pub row-range : {plan : Plan} {t : ℕ} → takesLogarithms (planIs plan) ≡ true → 3 ≤ n → n ≤ lastRow (planIs plan) → t ≤ greatestDeviation
       → RowRange plan n sum squares level t
   row-range {plan} logs h k d =
       let l : n ≤ 32 = omega (arith, last-most (planIs plan)) in

@@ -32,7 +32,7 @@ pub record ColumnIs (plan : Plan) (b : List ℕ) (p L t n : ℕ) (d : Decision) 
 abbrev pub measurementsOf : List ℕ → (p n : ℕ) → List ℕ
 measurementsOf b p n = map (λ r. measurement r p) (take n (enginesIn b))
 
--- ---- plans 1, 2 and 4: a row from the sums
+-- ---- plans 1, 2, 4 and 5: a row from the sums
 
 -- the sums of the n measurements xs, and the logarithm of the limit L
 pub record SumsOf (L : ℕ) (xs : List ℕ) (n sum squares level : ℕ) : Type 0 where

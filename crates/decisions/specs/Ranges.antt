@@ -1,29 +1,36 @@
 -- What the numbers of a column keep to.
 use Prim.Native.Nat.{ℕ, _*_, _^_, _≤_}
 use mathlib.Core.Path.{_≡_}
-use mathlib.Core.Bool.{true}
+use mathlib.Core.Bool.{Bool, true, false}
 use mathlib.Core.List.{List}
 use lib.ListN.{length}
 use Rattle.rules.specs.Sheet.{declares}
-use Rattle.rules.specs.Plans.{lastRow}
+use Rattle.rules.specs.Plans as rules
 use Rattle.rules.specs.Refusals.{greatestDeviation}
 use Rattle.accepted.specs.Sheets.{pollutantsIn, enginesIn, AcceptedSheet}
 use Rattle.columns.specs.Columns.{rowsOf}
 use Rattle.causes.specs.Causes.{gateOf}
 use Rattle.logarithm.specs.Four.{Measured}
 use Rattle.plan.specs.declared.Plan.{Plan}
-use Rattle.plan.specs.declared.Plan.the-variants.{Attributes}
 use Rattle.plan.specs.Plan.{planIs}
 
 -- a logarithm is below 24 × 2^q, also with 20 squarings
 abbrev pub highest : ℕ
 highest = 24 * 2 ^ 20
 
+-- plan 3 takes none
+abbrev pub takesLogarithms : rules.Plan → Bool
+takesLogarithms rules.knownDeviation = true
+takesLogarithms rules.unknownDeviation = true
+takesLogarithms rules.attributes = false
+takesLogarithms rules.inService = true
+takesLogarithms rules.corrected = true
+
 -- a row with statistics of a plan that takes logarithms: the sums, the limit's logarithm and the deviation
 pub record RowRange (plan : Plan) (n sum squares level t : ℕ) : Type 0 where
-  pub logs : plan ≡ Attributes → ⊥
+  pub logs : takesLogarithms (planIs plan) ≡ true
   pub least : 3 ≤ n
-  pub most : n ≤ lastRow (planIs plan)
+  pub most : n ≤ rules.lastRow (planIs plan)
   pub most-of-all : n ≤ 32
   pub sum-most : sum ≤ 32 * highest
   pub squares-most : n * squares ≤ 32 * (32 * (highest * highest))
@@ -43,4 +50,4 @@ pub record ColumnRange (b : List ℕ) (start : ℕ) (plan : Plan) (p L t rows : 
 -- the same of a plan that takes logarithms
 pub record LogarithmsRange (b : List ℕ) (start : ℕ) (plan : Plan) (p L t rows : ℕ) : Type 0 where
   pub column : ColumnRange b start plan p L t rows
-  pub logs : plan ≡ Attributes → ⊥
+  pub logs : takesLogarithms (planIs plan) ≡ true

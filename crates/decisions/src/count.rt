@@ -6,8 +6,8 @@ ghost use Rattle.decisions.specs.Ranges.{ColumnRange};
 use crate::Decision;
 use crate::fours::measured_or_one;
 use rows::Row;
-use rows::tables::fail_numbers;
-use rows::tables::pass_numbers;
+use tables::fail_numbers;
+use tables::pass_numbers;
 
 // A column of plan 3, whatever the deviation.
 pub(crate) fn column(bytes: &[u8], start: usize, number: u32, limit: u32, rows: usize) -> Decision

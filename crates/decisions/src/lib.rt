@@ -14,6 +14,10 @@ mod fours;
 mod logarithms;
 
 use plan::Plan;
+use tables::corrected;
+use tables::in_service;
+use tables::known_deviation;
+use tables::unknown_deviation;
 
 // What is said of a pollutant, with the engine where there is one.
 pub enum Decision {
@@ -147,10 +151,24 @@ pub fn column(
     requires { ⌜ ColumnRange (now bytes) start plan number limit deviation rows ⌝ }
     ensures { λ d. ⌜ ColumnIs plan (now (bytes .entry)) number limit deviation rows d ⌝ }
 {
-    // Plan 3 counts the engines over the limit, and the others take logarithms.
-    if let Plan::Attributes = plan {
-        count::column(bytes, start, number, limit, rows)
-    } else {
-        logarithms::column(bytes, start, plan, number, limit, deviation, rows)
+    // Plan 3 counts the engines over the limit, and the others take logarithms. A table is chosen here, once for a column, and lent whole.
+    match plan {
+        Plan::KnownDeviation => {
+            let table = known_deviation();
+            logarithms::column(bytes, start, plan, number, limit, deviation, rows, &table)
+        }
+        Plan::UnknownDeviation => {
+            let table = unknown_deviation();
+            logarithms::column(bytes, start, plan, number, limit, deviation, rows, &table)
+        }
+        Plan::Attributes => count::column(bytes, start, number, limit, rows),
+        Plan::InService => {
+            let table = in_service();
+            logarithms::column(bytes, start, plan, number, limit, deviation, rows, &table)
+        }
+        Plan::Corrected => {
+            let table = corrected();
+            logarithms::column(bytes, start, plan, number, limit, deviation, rows, &table)
+        }
     }
 }

@@ -1,6 +1,6 @@
-// Plans 1, 2 and 4: the sums of the measurements' logarithms and of their squares, and the rows by them.
-ghost use Rattle.rules.specs.Plans.{unknownNumbers};
-ghost use Rattle.rows.specs.Tables.{knownNumbers, Lent};
+// Plans 1, 2, 4 and 5: the sums of the measurements' logarithms and of their squares, and the rows by them.
+ghost use Rattle.plan.specs.Plan.{planIs};
+ghost use Rattle.tables.specs.Tables.{Lent};
 ghost use Rattle.decisions.specs.Column.{ColumnIs, RowFrom};
 ghost use Rattle.decisions.specs.Ranges.{RowRange, LogarithmsRange};
 use crate::Decision;
@@ -11,10 +11,8 @@ use plan::Plan;
 use record::cause_of;
 use record::record_at;
 use rows::Row;
-use rows::tables::known_deviation;
-use rows::tables::unknown_deviation;
 
-// What row n of the plan says by the sums; level is the limit's logarithm, `known` and `unknown` are the tables, lent.
+// What row n of the plan says by the sums; level is the limit's logarithm, and `table` is the plan's, lent.
 // W is n × squares − sum × sum: it does not change where every logarithm is moved by the limit's.
 fn row(
     plan: Plan,
@@ -23,27 +21,20 @@ fn row(
     squares: u64,
     level: u64,
     deviation: u64,
-    known: &[[u32; 2]; 30],
-    unknown: &[[u32; 2]; 30],
+    table: &[[i32; 2]],
 ) -> Row
     requires { ⌜ RowRange plan n sum squares level deviation ⌝ }
-    requires { ⌜ Lent knownNumbers (now known) ⌝ }
-    requires { ⌜ Lent unknownNumbers (now unknown) ⌝ }
+    requires { ⌜ Lent (planIs plan) (now table) ⌝ }
     ensures { λ r. ⌜ RowFrom plan n sum squares level deviation r ⌝ }
 {
-    match plan {
-        Plan::KnownDeviation => rows::known_row(n, known, sum, level, deviation),
-        Plan::UnknownDeviation => {
-            rows::unknown_row(n, unknown, sum, n * level, n * squares - sum * sum)
-        }
-        Plan::Attributes => Row::Open,
-        Plan::InService => {
-            rows::in_service_row(n, unknown, sum, n * level, n * squares - sum * sum)
-        }
+    if let Plan::KnownDeviation = plan {
+        rows::known_row(n, table, sum, level, deviation)
+    } else {
+        rows::root_row(plan, n, table, sum, n * level, n * squares - sum * sum)
     }
 }
 
-// A column of these plans: the sums stand in locals, and the logarithms come in fours.
+// A column of these plans, by the plan's table: the sums stand in locals, and the logarithms come in fours.
 pub(crate) fn column(
     bytes: &[u8],
     start: usize,
@@ -52,15 +43,15 @@ pub(crate) fn column(
     limit: u32,
     deviation: u32,
     rows: usize,
+    table: &[[i32; 2]],
 ) -> Decision
     requires { ⌜ LogarithmsRange (now bytes) start plan number limit deviation rows ⌝ }
+    requires { ⌜ Lent (planIs plan) (now table) ⌝ }
     ensures { λ d. ⌜ ColumnIs plan (now (bytes .entry)) number limit deviation rows d ⌝ }
 {
     if rows < 3 {
         return Decision::Open;
     }
-    let known = known_deviation();
-    let unknown = unknown_deviation();
     let mut logs = [0u32; 4];
     put_four(&mut logs, limit, bytes, start, number, rows, 0);
     let level = logs[0] as u64;
@@ -77,16 +68,7 @@ pub(crate) fn column(
         squares = squares + y * y;
         any = any | newest;
         if looks(n as u64, newest, any) {
-            let row = row(
-                plan,
-                n as u64,
-                sum,
-                squares,
-                level,
-                deviation as u64,
-                &known,
-                &unknown,
-            );
+            let row = row(plan, n as u64, sum, squares, level, deviation as u64, table);
             match row {
                 Row::Open => {}
                 Row::Pass => {

@@ -5,7 +5,7 @@ use Rattle.arithmetic.proofs.Basics.{cond, List, [], _∷_, _++_, map, append-n
 use Rattle.arithmetic.proofs.Basics.{eq-eqb, never, by-test, not-or}
 use Rattle.rules.specs.Tools.{any, all, those}
 use Rattle.rules.specs.Sheet.{Record, Pollutant, engineKind, records, cause, gross, measurement, engines, stopped, planNumber, declared}
-use Rattle.rules.specs.Plans.{Plan, knownDeviation, unknownDeviation, attributes, inService, planOf, lastRow, pass, fail, decide, rowPasses, row}
+use Rattle.rules.specs.Plans.{Plan, knownDeviation, unknownDeviation, attributes, inService, corrected, planOf, lastRow, pass, fail, decide, rowPasses, row}
 use Rattle.rules.specs.Series.{Decision, isOpen, passedAt, failedAt, Standing, Series, ongoing, passed, failed, referred}
 use Rattle.rules.specs.Series.{equalCause, referral, statistics, repeats, inServiceBefore, beforeRow, lookedAt, look, hasFailed, hasPassed}
 use Rattle.rules.specs.Series.{settleBy, settle, rowBy, walk, after, pairs, Answer, answer, judgeRecords}
@@ -165,6 +165,7 @@ row-ended inService ps q first ss = cases (repeats (map cause (those (gross ps) 
     cases true b = failed-ended (lastRow inService) 2 ss
     cases false true = referred-ended (lastRow inService) ss
     cases false false = settled inService q first ss
+row-ended corrected ps q first ss = settled corrected q first ss
 
 walk-last : (plan : Plan) (ps : List Pollutant) (q : ℕ) (first : List Record) (s : Series) → Ended (walk plan ps q (lastRow plan) first s)
 walk-last plan ps q first (ongoing ss) = row-ended plan ps q first ss
@@ -178,6 +179,7 @@ after-last knownDeviation ps q es = walk-last knownDeviation ps q _ (after known
 after-last unknownDeviation ps q es = walk-last unknownDeviation ps q _ (after unknownDeviation ps q es (lastRow unknownDeviation - 1))
 after-last attributes ps q es = walk-last attributes ps q _ (after attributes ps q es (lastRow attributes - 1))
 after-last inService ps q es = walk-last inService ps q _ (after inService ps q es (lastRow inService - 1))
+after-last corrected ps q es = walk-last corrected ps q _ (after corrected ps q es (lastRow corrected - 1))
 
 pub sheet-ends : (w q : ℕ) (b : List ℕ) → Accepted w q b → enginesOf w b ≡ lastRow (planOfSheet w b) → Decided w q b
 unfolding judgeRecords

@@ -17,7 +17,7 @@ sentences =
     ∷ 2 means "the record's kind is not 1, 2 or 3"
     ∷ 3 means "the first record is no pollutant, a pollutant follows another kind, or a record follows the stop"
     ∷ 4 means "the pollutant number is not 1 to 4, or not above the one before"
-    ∷ 5 means "the plan is not 1 to 4, or unlike the first pollutant's"
+    ∷ 5 means "the plan is not 1 to 5, or unlike the first pollutant's"
     ∷ 6 means "the limit is not 1 to 9999999"
     ∷ 7 means "the deviation is not 1 to 4000000 in plan 1, or not 0 in another plan"
     ∷ 8 means "a measurement is not 1 to 9999999, or one of an undeclared pollutant is not 0"

@@ -97,7 +97,7 @@ fn with_sentence(lines: Lines, number: u8) -> Lines
         the record's kind is not 1, 2 or 3\n\
         the first record is no pollutant, a pollutant follows another kind, or a record follows the stop\n\
         the pollutant number is not 1 to 4, or not above the one before\n\
-        the plan is not 1 to 4, or unlike the first pollutant's\n\
+        the plan is not 1 to 5, or unlike the first pollutant's\n\
         the limit is not 1 to 9999999\n\
         the deviation is not 1 to 4000000 in plan 1, or not 0 in another plan\n\
         a measurement is not 1 to 9999999, or one of an undeclared pollutant is not 0\n\

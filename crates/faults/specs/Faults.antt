@@ -6,7 +6,7 @@ use Rattle.rules.specs.Tools.{within, byte, two, four}
 use Rattle.rules.specs.Logarithm.{greatest}
 use Rattle.rules.specs.Sheet.{Record, pollutants, pollutantKind, engineKind, stopKind, kind, number, plan, limit, deviation, cause, measurement}
 use Rattle.rules.specs.Refusals.{greatestDeviation, greatestCause}
-use Rattle.rules.specs.Plans.{planCount}
+use Rattle.rules.specs.Plans.{knownDeviation, inService, planCount, numberOf}
 use Rattle.record.specs.declared.Quantities.{Quantities}
 use Rattle.faults.specs.declared.Summary.{Summary}
 
@@ -17,7 +17,7 @@ pollutantBy s number plan limit deviation unused =
     (cond (not (within 1 pollutants number) || leb number (s .number)) 4
     (cond (not (within 1 planCount plan) || not (eqb (s .kind) 0) && not (eqb plan (s .plan))) 5
     (cond (not (within 1 greatest limit)) 6
-    (cond (eqb plan 1 && not (within 1 greatestDeviation deviation) || not (eqb plan 1) && not (eqb deviation 0)) 7
+    (cond (eqb plan (numberOf knownDeviation) && not (within 1 greatestDeviation deviation) || not (eqb plan (numberOf knownDeviation)) && not (eqb deviation 0)) 7
     (cond unused 12 0)))))
 
 -- 12, of each kind: the bytes that must be zero, as numbers
@@ -62,7 +62,7 @@ grossBy limits r =
     || exceeds (limits .pm) (measurement r 4)
 
 unfoldable pub badCauseBy : Summary → Record → Bool
-badCauseBy s r = cond (eqb (s .plan) 4 && grossBy (s .limits) r) (not (within 1 greatestCause (cause r))) (not (eqb (cause r) 0))
+badCauseBy s r = cond (eqb (s .plan) (numberOf inService) && grossBy (s .limits) r) (not (within 1 greatestCause (cause r))) (not (eqb (cause r) 0))
 
 -- 3, 8, 9, 10 and 12 of an engine
 unfoldable pub engineFault : Summary → Record → ℕ
@@ -77,7 +77,7 @@ engineFault s r =
 unfoldable pub stopFault : Summary → Record → ℕ
 stopFault s r =
     cond (eqb (s .kind) 0 || eqb (s .kind) stopKind) 3
-    (cond (eqb (s .plan) 4) 11
+    (cond (eqb (s .plan) (numberOf inService)) 11
     (cond (stopUnused r) 12 0))
 
 -- 2, of a record of another kind

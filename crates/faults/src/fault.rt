@@ -39,8 +39,8 @@ fn pollutant_by(s: Summary, number: u32, plan: u32, limit: u32, deviation: u32, 
     if !((1 <= number) & (number <= 4)) | (number <= s.number) {
         return 4;
     }
-    // "5, plan not 1 to 4 or unlike the first"
-    if !((1 <= plan) & (plan <= Plan::IN_SERVICE)) | ((s.kind != 0) & (plan != s.plan)) {
+    // "5, plan not 1 to 4 or unlike the first"; 02, F-6: "Refusal 5 admits plan 5."
+    if !((1 <= plan) & (plan <= Plan::CORRECTED)) | ((s.kind != 0) & (plan != s.plan)) {
         return 5;
     }
     // "6, limit out of range"
@@ -117,7 +117,7 @@ fn is_gross(limits: Quantities, r: &[u8]) -> bool
         | exceeds(limits.pm, r, 4)
 }
 
-// "9, cause": "In plan 4 its cause is 1 to 65,534, any other vehicle's is 0; in plans 1 to 3 cause is 0."
+// "9, cause": "In plan 4 its cause is 1 to 65,534, any other vehicle's is 0; in plans 1 to 3 cause is 0.", and in plan 5.
 fn bad_cause(s: Summary, r: &[u8]) -> bool
     requires { ⌜ Limits (s .limits) ⌝ }
     ensures { λ b. ⌜ b ≡ badCauseBy s (now (r .entry)) ⌝ }

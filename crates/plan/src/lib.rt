@@ -1,4 +1,4 @@
-// The four plans of document 01, each with its last row.
+// The plans of documents 01 and 02, each with its number and its last row.
 ghost use mathlib.Core.Path.{_≡_};
 ghost use Rattle.rules.specs.Plans.{planOf, lastRow};
 ghost use Rattle.plan.specs.Plan.{planIs};
@@ -9,6 +9,8 @@ pub enum Plan {
     UnknownDeviation,
     Attributes,
     InService,
+    // Unknown deviation, the corrected sheet (02, F-6).
+    Corrected,
 }
 
 impl Plan {
@@ -21,6 +23,8 @@ impl Plan {
 
     pub const IN_SERVICE: u32 = 4;
 
+    pub const CORRECTED: u32 = 5;
+
     // The last row of each.
     pub const KNOWN_DEVIATION_LAST_ROW: u32 = 32;
 
@@ -30,7 +34,9 @@ impl Plan {
 
     pub const IN_SERVICE_LAST_ROW: u32 = 15;
 
-    // The plan of a number that the check lets pass, 1 to 4: of any other, the last.
+    pub const CORRECTED_LAST_ROW: u32 = 32;
+
+    // The plan of a number that the check lets pass, 1 to 5: of any other, plan 1, as the definition has it.
     pub fn of(number: u32) -> Plan
         ensures { λ p. ⌜ planIs p ≡ planOf number ⌝ }
     {
@@ -40,8 +46,12 @@ impl Plan {
             Plan::UnknownDeviation
         } else if number == Plan::ATTRIBUTES {
             Plan::Attributes
-        } else {
+        } else if number == Plan::IN_SERVICE {
             Plan::InService
+        } else if number == Plan::CORRECTED {
+            Plan::Corrected
+        } else {
+            Plan::KnownDeviation
         }
     }
 
@@ -54,6 +64,7 @@ impl Plan {
             Plan::UnknownDeviation => Plan::UNKNOWN_DEVIATION_LAST_ROW,
             Plan::Attributes => Plan::ATTRIBUTES_LAST_ROW,
             Plan::InService => Plan::IN_SERVICE_LAST_ROW,
+            Plan::Corrected => Plan::CORRECTED_LAST_ROW,
         }
     }
 }

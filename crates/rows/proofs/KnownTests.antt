@@ -1,8 +1,12 @@
 -- Plan 1's row, by its tests on integers, as the program makes it by tests on naturals, for every number q of squarings.
-use Rattle.arithmetic.proofs.Basics.{_≡_, ℕ, _+_, _*_, _^_, _≤_, _<_, arith, eqb, ℤ, pos, negℤ, _-ℤ_, _*ℤ_, eq-eqb, ne-eqb}
+use Rattle.arithmetic.proofs.Basics.{_≡_, ℕ, _+_, _*_, _^_, _≤_, _<_, arith, cond, eqb, ℤ, pos, negℤ, _-ℤ_, _*ℤ_, eq-eqb, ne-eqb}
 use Rattle.arithmetic.proofs.Integers.{Diff, diff-pos, diff-negpos, diff-neg, diff-minus, diff-mul, diff-move, lt-test, lt-not}
-use Rattle.rules.specs.Plans.{Row, pass, fail, undecided, decide, knownPasses, knownFails, logOfTwo}
-use Rattle.rows.proofs.TableRows.{KnownNumbers}
+use Rattle.rules.specs.Plans.{Row, pass, fail, undecided, decide, knownA, knownB, knownPasses, knownFails, logOfTwo}
+
+-- a and b are A and B of row n without their signs: A is below 0 in row 32 alone, and every B is
+pub record KnownNumbers (n a b : ℕ) : Type 0 where
+  pub A-is : cond (eqb n 32) (negℤ (pos a)) (pos a) ≡ knownA n
+  pub B-is : negℤ (pos b) ≡ knownB n
 
 module _ (q n added level t a b : ℕ) (numbers : KnownNumbers n a b) where
   -- D, and the program's three numbers

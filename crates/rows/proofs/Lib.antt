@@ -1,4 +1,3 @@
-pub mod TableRows
 pub mod KnownTests
 pub mod RootTests
 pub mod RootRows

@@ -1,9 +1,10 @@
 -- A row of the definition from the sums that the program makes, for every number q of squarings: by the definitions of the sums, and from
 -- numbers equal to them.
-use Rattle.arithmetic.proofs.Basics.{_≡_, refl, List, ℕ, _-_, _*_, eqb, length, ℤ, pos, _-ℤ_}
+use Rattle.arithmetic.proofs.Basics.{_≡_, refl, sym, true, never, List, ℕ, _-_, _*_, eqb, length, ℤ, pos, _-ℤ_}
 use Rattle.rules.specs.Logarithm.{g}
-use Rattle.rules.specs.Plans.{knownDeviation, unknownDeviation, attributes, inService, lastRow, row, rowPasses, rowFails, decide, knownPasses, knownFails}
-use Rattle.rules.specs.Plans.{rootPasses, rootFails, unknownNumbers, inServiceNumbers, attributesPasses, attributesFails, countOver}
+use Rattle.rules.specs.Plans.{Plan, knownDeviation, unknownDeviation, attributes, inService, corrected, lastRow, row, rowPasses, rowFails, decide, knownPasses, knownFails}
+use Rattle.rules.specs.Plans.{rootPasses, rootFails, attributesPasses, attributesFails, countOver}
+use Rattle.tables.specs.Tables.{numbersOf, comparesRoots}
 use Rattle.rows.specs.Sums.{sumG, squaresG}
 use Rattle.rows.proofs.Sums.{D-is, W-is}
 
@@ -21,14 +22,16 @@ module _ (q L t : ℕ) (xs : List ℕ) where
   unfolding row rowPasses rowFails
   known-row-is = rw (D-is q L xs)
 
-  pub unknown-row-is : row unknownDeviation q n L t xs ≡ decide (rootPasses (unknownNumbers n .A) D W) (eqb n (lastRow unknownDeviation)) (rootFails (unknownNumbers n .B) D W)
+  -- plans 2, 4 and 5
+  pub root-row-is : (plan : Plan) → comparesRoots plan ≡ true
+      → row plan q n L t xs ≡ decide (rootPasses (numbersOf plan n .A) D W) (eqb n (lastRow plan)) (rootFails (numbersOf plan n .B) D W)
   unfolding row rowPasses rowFails
-  unknown-row-is = rw (W-is q L xs, D-is q L xs)
+  root-row-is knownDeviation c = never (sym c)
+  root-row-is unknownDeviation c = rw (W-is q L xs, D-is q L xs)
+  root-row-is attributes c = never (sym c)
+  root-row-is inService c = rw (W-is q L xs, D-is q L xs)
+  root-row-is corrected c = rw (W-is q L xs, D-is q L xs)
 
   pub attributes-row-is : row attributes q n L t xs ≡ decide (attributesPasses n (countOver L xs)) (eqb n (lastRow attributes)) (attributesFails n (countOver L xs))
   unfolding row rowPasses rowFails
   attributes-row-is = refl
-
-  pub in-service-row-is : row inService q n L t xs ≡ decide (rootPasses (inServiceNumbers n .A) D W) (eqb n (lastRow inService)) (rootFails (inServiceNumbers n .B) D W)
-  unfolding row rowPasses rowFails
-  in-service-row-is = rw (W-is q L xs, D-is q L xs)

@@ -1,4 +1,3 @@
 pub mod Row
 pub mod Ranges
-pub mod Tables
 pub mod Sums

@@ -1,19 +1,18 @@
-// A row of each of document 01's four plans: "A row gives pass, fail or open", "pass is tested first".
+// A row of each plan: "A row gives pass, fail or open", "pass is tested first".
 //
 // Each returns as soon as the row is known: what is an argument is computed before the call, needed or not.
 ghost use mathlib.Core.Path.{_≡_};
-ghost use mathlib.Core.Bool.{cond};
+ghost use mathlib.Core.Bool.{cond, not, _&&_, _||_};
 ghost use Prim.Native.Nat.{_+_, _-_, _*_};
-ghost use lib.Dec.{eqb};
-ghost use lib.IntN.{pos, negℤ, _-ℤ_};
+ghost use lib.Dec.{eqb, ltb};
+ghost use lib.IntN.{pos, natAbs, _-ℤ_};
+ghost use lib.Signed.{ltZ};
 ghost use Rattle.rules.specs.Logarithm.{squarings};
 ghost use Rattle.rules.specs.Plans as rules;
 ghost use Rattle.rows.specs.Row.{rowIs};
-ghost use Rattle.rows.specs.Ranges.{KnownRanges, RootRanges, NumberRanges, RowRange};
-ghost use Rattle.rows.specs.Tables.{knownNumbers, Lent, PassNumbers, FailNumbers};
-
-pub mod tables;
-
+ghost use Rattle.plan.specs.Plan.{planIs};
+ghost use Rattle.tables.specs.Tables.{Lent, entryAt, numbersOf, PassNumbers, FailNumbers};
+ghost use Rattle.rows.specs.Ranges.{KnownRanges, RootRanges, MagnitudeRange, EntryRange, RowRange};
 use plan::Plan;
 
 // What a row says of one pollutant.
@@ -29,16 +28,13 @@ const LOGARITHM_UNIT: u64 = 65536;
 // The natural logarithm of 2, in billionths.
 const LOG_OF_TWO: u64 = 693147181;
 
-// Plan 4's A at 15, above 0.
-const IN_SERVICE_LAST_A: u64 = 15474;
-
 // Plan 1, known deviation: "Pass if T × 693,147,181 > A × t × 65,536; fail if less than the same with B."
 // `added` is the sum of the measurements' logarithms and `level` the limit's logarithm, so T is n × level − added; `table` is the plan's, lent.
 // Each term that document 01 has with a minus stands on the other side, so that all is unsigned.
 // For `decisions` alone, with sums over the engines of an accepted sheet: so it may require.
-pub fn known_row(n: u64, table: &[[u32; 2]; 30], added: u64, level: u64, deviation: u64) -> Row
+pub fn known_row(n: u64, table: &[[i32; 2]], added: u64, level: u64, deviation: u64) -> Row
     requires { ⌜ KnownRanges n added level deviation ⌝ }
-    requires { ⌜ Lent knownNumbers (now table) ⌝ }
+    requires { ⌜ Lent rules.knownDeviation (now table) ⌝ }
     ensures { λ r. ⌜ rowIs r ≡ rules.decide (rules.knownPasses squarings n (pos added -ℤ pos (n * level)) deviation)
         (eqb n (rules.lastRow rules.knownDeviation))
         (rules.knownFails squarings n (pos added -ℤ pos (n * level)) deviation) ⌝ }
@@ -47,7 +43,7 @@ pub fn known_row(n: u64, table: &[[u32; 2]; 30], added: u64, level: u64, deviati
     let unit = deviation * LOGARITHM_UNIT;
     let above = added * LOG_OF_TWO;
     let line = n * (level * LOG_OF_TWO);
-    let pass = table[i][0] as u64 * unit;
+    let pass = magnitude_at(table, i, 0) * unit;
     // A is below 0 in the last row, and in no other.
     if n == Plan::KNOWN_DEVIATION_LAST_ROW as u64 {
         return if above < line + pass {
@@ -59,75 +55,79 @@ pub fn known_row(n: u64, table: &[[u32; 2]; 30], added: u64, level: u64, deviati
     if above + pass < line {
         return Row::Pass;
     }
-    let fail = table[i][1] as u64 * unit;
+    let fail = magnitude_at(table, i, 1) * unit;
     if line + fail < above {
         return Row::Fail;
     }
     Row::Open
 }
 
-// Plan 2, unknown deviation. D is added − taken, W is `spread`; `table` is the plan's, lent.
+// Plans 2, 4 and 5, which compare with roots. D is added − taken, W is `spread`; `table` is the plan's, lent.
+// "P = 100,000 × D", "roots never taken": P² is compared with A²W and B²W. "Squares exceed 64 bits". Nothing is divided by √W, and W may be 0.
+// A at or above 0 is asked for first. In what it leaves, as in a row with A below 0, a D above 0 does not pass; and a D of 0 or below, which
+// only A below 0 leaves, can fail by B in the last row alone: so one comparison decides. D's sign chooses between numbers and not between
+// branches, because the processor guesses such a branch wrongly.
 // For `decisions` alone, with sums over the engines of an accepted sheet: so it may require.
-pub fn unknown_row(n: u64, table: &[[u32; 2]; 30], added: u64, taken: u64, spread: u64) -> Row
-    requires { ⌜ RootRanges rules.unknownDeviation n added taken ⌝ }
-    requires { ⌜ Lent rules.unknownNumbers (now table) ⌝ }
-    ensures { λ r. ⌜ rowIs r ≡ rules.decide (rules.rootPasses (rules.unknownNumbers n .A) (pos added -ℤ pos taken) (pos spread))
-        (eqb n (rules.lastRow rules.unknownDeviation))
-        (rules.rootFails (rules.unknownNumbers n .B) (pos added -ℤ pos taken) (pos spread)) ⌝ }
+pub fn root_row(plan: Plan, n: u64, table: &[[i32; 2]], added: u64, taken: u64, spread: u64) -> Row
+    requires { ⌜ RootRanges (planIs plan) n added taken ⌝ }
+    requires { ⌜ Lent (planIs plan) (now table) ⌝ }
+    ensures { λ r. ⌜ rowIs r ≡ rules.decide (rules.rootPasses (numbersOf (planIs plan) n .A) (pos added -ℤ pos taken) (pos spread))
+        (eqb n (rules.lastRow (planIs plan)))
+        (rules.rootFails (numbersOf (planIs plan) n .B) (pos added -ℤ pos taken) (pos spread)) ⌝ }
 {
     let i = (n - 3) as usize;
-    let last = n == Plan::UNKNOWN_DEVIATION_LAST_ROW as u64;
-    root_row(
-        last,
-        table[i][0] as u64,
-        table[i][1] as u64,
-        added,
-        taken,
-        spread,
-    )
-}
-
-// Plan 4, in service: "Rows as plan 2 up to 14; at 15, A is 15474."
-// For `decisions` alone, with sums over the engines of an accepted sheet: so it may require.
-pub fn in_service_row(n: u64, table: &[[u32; 2]; 30], added: u64, taken: u64, spread: u64) -> Row
-    requires { ⌜ RootRanges rules.inService n added taken ⌝ }
-    requires { ⌜ Lent rules.unknownNumbers (now table) ⌝ }
-    ensures { λ r. ⌜ rowIs r ≡ rules.decide (rules.rootPasses (rules.inServiceNumbers n .A) (pos added -ℤ pos taken) (pos spread))
-        (eqb n (rules.lastRow rules.inService))
-        (rules.rootFails (rules.inServiceNumbers n .B) (pos added -ℤ pos taken) (pos spread)) ⌝ }
-{
-    if n < Plan::IN_SERVICE_LAST_ROW as u64 {
-        return unknown_row(n, table, added, taken, spread);
-    }
-    // "for A ≥ 0, P ≤ 0 or P² ≤ A²W". In the last row, what doesn't pass fails.
-    if added <= taken {
+    let over = taken < added;
+    let p = 100000 * distance(added, taken);
+    let a = magnitude_at(table, i, 0);
+    if is_within(is_negative_at(table, i, 0), a, over, p, spread) {
         return Row::Pass;
     }
-    let p = 100000 * (added - taken);
-    if wide::less(
-        wide::product(IN_SERVICE_LAST_A * IN_SERVICE_LAST_A, spread),
-        wide::product(p, p),
-    ) {
-        return Row::Fail;
-    }
-    Row::Pass
-}
-
-// A row of plan 2 or 4 with A = −a below 0 and B = b: a D above 0 cannot pass, and a D of 0 or below can fail by B in the last row alone,
-// so one comparison decides. D's sign chooses between numbers and not between branches, because the processor guesses such a branch wrongly.
-// "P = 100,000 × D", "roots never taken": P² is compared with x²W. "Squares exceed 64 bits". Nothing is divided by √W, and W may be 0.
-fn root_row(last: bool, a: u64, b: u64, added: u64, taken: u64, spread: u64) -> Row
-    requires { ⌜ NumberRanges last a b added taken ⌝ }
-    ensures { λ r. ⌜ rowIs r ≡ rules.decide (rules.rootPasses (negℤ (pos a)) (pos added -ℤ pos taken) (pos spread)) last
-        (rules.rootFails (pos b) (pos added -ℤ pos taken) (pos spread)) ⌝ }
-{
-    let over = taken < added;
-    let x = chosen(over, b, a);
-    let p = 100000 * distance(added, taken);
+    let x = chosen(over, magnitude_at(table, i, 1), a);
     if wide::less(wide::product(p, p), wide::product(x * x, spread)) {
-        return if last { Row::Fail } else { Row::Open };
+        return if n == plan.last_row() as u64 {
+            Row::Fail
+        } else {
+            Row::Open
+        };
     }
     if over { Row::Fail } else { Row::Pass }
+}
+
+// "for A ≥ 0, P ≤ 0 or P² ≤ A²W": whether A is such a number, and the row passes by it. A and P come without their signs.
+fn is_within(negative: bool, a: u64, over: bool, p: u64, spread: u64) -> bool
+    requires { ⌜ MagnitudeRange a ⌝ }
+    ensures { λ r. ⌜ r ≡ not negative && (not over || not (ltb (a * a * spread) (p * p))) ⌝ }
+{
+    if negative {
+        return false;
+    }
+    !over | !wide::less(wide::product(a * a, spread), wide::product(p, p))
+}
+
+// A number of a lent table without its sign: A of row i + 3 for j = 0, B for j = 1.
+fn magnitude_at(table: &[[i32; 2]], i: usize, j: usize) -> u64
+    requires { ⌜ EntryRange (now table) i j ⌝ }
+    ensures { λ r. ⌜ r ≡ natAbs (entryAt (now (table .entry)) i j) ⌝ }
+{
+    magnitude(table[i][j])
+}
+
+// Whether it is below 0.
+fn is_negative_at(table: &[[i32; 2]], i: usize, j: usize) -> bool
+    requires { ⌜ EntryRange (now table) i j ⌝ }
+    ensures { λ r. ⌜ r ≡ ltZ (entryAt (now (table .entry)) i j) (pos 0) ⌝ }
+{
+    table[i][j] < 0
+}
+
+fn magnitude(x: i32) -> u64
+    ensures { λ r. ⌜ r ≡ natAbs x ⌝ }
+{
+    if x < 0 {
+        (-(x as i64)) as u64
+    } else {
+        x as u64
+    }
 }
 
 // D without its sign.

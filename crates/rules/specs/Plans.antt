@@ -1,4 +1,4 @@
--- Document 01, "Plans": last rows, decision numbers, and what a row says of one pollutant.
+-- Document 01, "Plans", and document 02, F-6: last rows, decision numbers, and what a row says of one pollutant.
 use Prim.Native.Nat.{ℕ, _+_, _-_, _/_, _^_}
 use mathlib.Core.Bool.{Bool, not, _&&_, _||_, cond}
 use mathlib.Core.List.{List, [], _∷_}
@@ -10,21 +10,36 @@ use Rattle.rules.specs.Tools.{those, square}
 use Rattle.rules.specs.Logarithm.{D, W}
 
 pub data Plan : Type 0 where
-  knownDeviation unknownDeviation attributes inService : Plan
+  knownDeviation unknownDeviation attributes inService corrected : Plan
 
--- plans 1 to 4
+-- plans 1 to 5
 abbrev pub planCount : ℕ
-planCount = 4
+planCount = 5
 
+-- the number of each plan on a sheet
+abbrev pub numberOf : Plan → ℕ
+numberOf knownDeviation = 1
+numberOf unknownDeviation = 2
+numberOf attributes = 3
+numberOf inService = 4
+numberOf corrected = 5
+
+-- the plan of a number. For a number that is no plan's, which refusal 5 turns down, plan 1 stands here, and no answer depends on it.
 unfoldable pub planOf : ℕ → Plan
-planOf n = cond (eqb n 1) knownDeviation (cond (eqb n 2) unknownDeviation (cond (eqb n 3) attributes inService))
+planOf n =
+    cond (eqb n (numberOf knownDeviation)) knownDeviation
+    (cond (eqb n (numberOf unknownDeviation)) unknownDeviation
+    (cond (eqb n (numberOf attributes)) attributes
+    (cond (eqb n (numberOf inService)) inService
+    (cond (eqb n (numberOf corrected)) corrected knownDeviation))))
 
--- "The last row belongs to the plan: 32, 32, 19 and 15 engines."
+-- "The last row belongs to the plan: 32, 32, 19 and 15 engines."; 02, F-6: "ending at 32"
 abbrev pub lastRow : Plan → ℕ
 lastRow knownDeviation = 32
 lastRow unknownDeviation = 32
 lastRow attributes = 19
 lastRow inService = 15
+lastRow corrected = 32
 
 -- "A row gives pass, fail or open"
 pub data Row : Type 0 where
@@ -69,11 +84,12 @@ atMostRoot P A W =
 unfoldable pub atLeastRoot : (P B W : ℤ) → Bool
 atLeastRoot P B W = leZ (pos 0) P && leZ (square B *ℤ W) (square P)
 
--- A and B of one row: −a and b, which the document prints as −a/b
+-- A and B of one row
 pub record Numbers : Type 0 where
   pub A : ℤ
   pub B : ℤ
 
+-- −a and b, which the document prints as −a/b
 abbrev pub −_and_ : ℕ → ℕ → Numbers
 − a and b = record { A = negℤ (pos a); B = pos b }
 
@@ -119,6 +135,15 @@ attributesFails n c = cond (eqb n 19) (leb 9 c) (leb (n / 2 + 2) c)
 unfoldable pub inServiceNumbers : (n : ℕ) → Numbers
 inServiceNumbers n = cond (eqb n 15) (record { A = pos 15474; B = pos 0 }) (unknownNumbers n)
 
+-- ---- 5, unknown deviation, the corrected sheet (02, F-6)
+
+-- "A is 449 at 31, A and B are 3876 at 32. It becomes plan 5, otherwise as plan 2"
+unfoldable pub correctedNumbers : (n : ℕ) → Numbers
+correctedNumbers n =
+    cond (eqb n 31) (record { A = pos 449; B = unknownNumbers n .B })
+    (cond (eqb n 32) (record { A = pos 3876; B = pos 3876 })
+    (unknownNumbers n))
+
 -- ---- the row n of a plan, for the limit L, the deviation t and the n measurements xs
 
 unfoldable pub rowPasses : Plan → (q n L t : ℕ) → List ℕ → Bool
@@ -126,12 +151,14 @@ rowPasses knownDeviation q n L t xs = knownPasses q n (D q L xs) t
 rowPasses unknownDeviation q n L t xs = rootPasses (unknownNumbers n .A) (D q L xs) (W q L xs)
 rowPasses attributes q n L t xs = attributesPasses n (countOver L xs)
 rowPasses inService q n L t xs = rootPasses (inServiceNumbers n .A) (D q L xs) (W q L xs)
+rowPasses corrected q n L t xs = rootPasses (correctedNumbers n .A) (D q L xs) (W q L xs)
 
 unfoldable pub rowFails : Plan → (q n L t : ℕ) → List ℕ → Bool
 rowFails knownDeviation q n L t xs = knownFails q n (D q L xs) t
 rowFails unknownDeviation q n L t xs = rootFails (unknownNumbers n .B) (D q L xs) (W q L xs)
 rowFails attributes q n L t xs = attributesFails n (countOver L xs)
 rowFails inService q n L t xs = rootFails (inServiceNumbers n .B) (D q L xs) (W q L xs)
+rowFails corrected q n L t xs = rootFails (correctedNumbers n .B) (D q L xs) (W q L xs)
 
 unfoldable pub row : Plan → (q n L t : ℕ) → List ℕ → Row
 row plan q n L t xs = decide (rowPasses plan q n L t xs) (eqb n (lastRow plan)) (rowFails plan q n L t xs)

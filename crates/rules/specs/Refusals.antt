@@ -7,7 +7,7 @@ use lib.ListN.{length, take, drop}
 use Rattle.rules.specs.Tools.{any, within}
 use Rattle.rules.specs.Logarithm.{greatest}
 use Rattle.rules.specs.Sheet.{Record, Pollutant, size, most, records, numbers, pollutantKind, engineKind, stopKind, kind, number, plan, limit, deviation, cause, measurement, engines, stopped, planNumber, declared, declares, gross}
-use Rattle.rules.specs.Plans.{planCount, planOf, lastRow}
+use Rattle.rules.specs.Plans.{knownDeviation, inService, planCount, numberOf, planOf, lastRow}
 
 -- ---- the faults of a record r that stands after the faultless records `before`
 
@@ -26,7 +26,7 @@ newest (p ∷ o ∷ ps) = newest (o ∷ ps)
 unfoldable pub badNumber : (w : ℕ) → (before : List Record) → Record → Bool
 badNumber w before r = not (within 1 w (number r)) || leb (number r) (newest (declared before))
 
--- "5, plan not 1 to 4 or unlike the first"
+-- "5, plan not 1 to 4 or unlike the first"; 02, F-6: "Refusal 5 admits plan 5."
 unfoldable pub badPlan : (before : List Record) → Record → Bool
 badPlan [] r = not (within 1 planCount (plan r))
 badPlan (a ∷ before) r = not (within 1 planCount (plan r)) || not (eqb (plan r) (planNumber (a ∷ before)))
@@ -40,7 +40,7 @@ abbrev pub greatestDeviation : ℕ
 greatestDeviation = 4000000
 
 unfoldable pub badDeviation : Record → Bool
-badDeviation r = cond (eqb (plan r) 1) (not (within 1 greatestDeviation (deviation r))) (not (eqb (deviation r) 0))
+badDeviation r = cond (eqb (plan r) (numberOf knownDeviation)) (not (within 1 greatestDeviation (deviation r))) (not (eqb (deviation r) 0))
 
 -- "8, measurement, also one not zero of an undeclared pollutant"
 abbrev pub badValue : List Pollutant → Record → (p : ℕ) → Bool
@@ -53,9 +53,10 @@ badMeasurement w ps r = any (badValue ps r) (numbers w)
 abbrev pub greatestCause : ℕ
 greatestCause = 65534
 
--- "9, cause": "In plan 4 [a gross emitter's] cause is 1 to 65,534, any other vehicle's is 0; in plans 1 to 3 cause is 0."
+-- "9, cause": "In plan 4 [a gross emitter's] cause is 1 to 65,534, any other vehicle's is 0; in plans 1 to 3 cause is 0."; and in plan 5
+-- it is 0, which is "otherwise as plan 2"
 unfoldable pub badCause : (planNumber : ℕ) → List Pollutant → Record → Bool
-badCause n ps r = cond (eqb n 4 && gross ps r) (not (within 1 greatestCause (cause r))) (not (eqb (cause r) 0))
+badCause n ps r = cond (eqb n (numberOf inService) && gross ps r) (not (within 1 greatestCause (cause r))) (not (eqb (cause r) 0))
 
 -- "10, more engines than the last row"
 unfoldable pub tooMany : (before : List Record) → Bool
@@ -93,7 +94,7 @@ faults w before r =
     ∷ fault 8 (eqb (kind r) engineKind && badMeasurement w (declared before) r)
     ∷ fault 9 (eqb (kind r) engineKind && badCause (planNumber before) (declared before) r)
     ∷ fault 10 (eqb (kind r) engineKind && tooMany before)
-    ∷ fault 11 (eqb (kind r) stopKind && eqb (planNumber before) 4)
+    ∷ fault 11 (eqb (kind r) stopKind && eqb (planNumber before) (numberOf inService))
     ∷ fault 12 (unused w r)
     ∷ []
 

@@ -6,7 +6,7 @@ use lib.Dec.{leb, ltb, eqb}
 use lib.ListN.{length, take, drop}
 use Rattle.rules.specs.Tools.{any, all, those}
 use Rattle.rules.specs.Sheet.{Record, Pollutant, numbers, measurement, cause, gross, engines, stopped, declared, planNumber}
-use Rattle.rules.specs.Plans.{Plan, knownDeviation, unknownDeviation, attributes, inService, planOf, Row, pass, fail, undecided, row}
+use Rattle.rules.specs.Plans.{Plan, knownDeviation, unknownDeviation, attributes, inService, corrected, planOf, Row, pass, fail, undecided, row}
 
 -- a pollutant's decision and its engine
 pub data Decision : Type 0 where
@@ -48,6 +48,7 @@ planBefore knownDeviation ps n first = statistics
 planBefore unknownDeviation ps n first = statistics
 planBefore attributes ps n first = statistics
 planBefore inService ps n first = inServiceBefore ps n first
+planBefore corrected ps n first = statistics
 
 -- "Rows are walked from 3."
 unfoldable pub beforeRow : Plan → List Pollutant → (n : ℕ) → (first : List Record) → Before

@@ -1,16 +1,17 @@
 //! The sheets that every suite goes through: pairs on a line and series exact to a unit of W, both
-//! chosen by the paper, the directed sheets of plans 3 and 4, damaged sheets for every refusal,
+//! chosen by the paper, the directed sheets of plans 3, 4 and 5, damaged sheets for every refusal,
 //! the longest sheets, and random ones.
 
 use crate::attributes;
+use crate::corrected;
 use crate::draft::{random_draft, Draft};
 use crate::exact::{self, Stand};
 use crate::pairs::{self, Pair};
 use crate::paper::{Cell, Chosen, Paper};
-use crate::refusals::WAYS;
+use crate::refusals::{Way, WAYS};
 use crate::service;
 use random::Random;
-use second::{check, Document, Document01, LONGEST_SHEET, RECORD};
+use second::{check, Document, Document01, LONGEST_SHEET, PLANS, RECORD, UNKNOWN_DEVIATION};
 use std::fmt;
 use std::ops::ControlFlow;
 
@@ -43,7 +44,7 @@ pub const QUICK: Scale = Scale {
     rounds_of_damage: 4,
     one_directed_in: 16,
     random_sheets: 1_500,
-    promises: 100,
+    promises: 300,
 };
 
 /// Where a sheet comes from.
@@ -53,6 +54,7 @@ pub enum Origin {
     Exact(Cell, Stand),
     Attributes,
     InService,
+    Corrected,
     Damage(usize),
     TwoDamages(usize, usize),
     Longest,
@@ -73,6 +75,7 @@ impl fmt::Display for Origin {
             }
             Origin::Attributes => write!(formatter, "directed sheet of plan 3"),
             Origin::InService => write!(formatter, "directed sheet of plan 4"),
+            Origin::Corrected => write!(formatter, "directed sheet of plans 2 and 5"),
             Origin::Damage(way) => {
                 write!(
                     formatter,
@@ -94,6 +97,7 @@ pub struct Corpus {
     pub pairs: Vec<Pair>,
     pub exact: Vec<(Cell, Stand, Chosen)>,
     attributes: Vec<Chosen>,
+    corrected: Vec<Chosen>,
     directed: Vec<(Origin, Vec<u8>)>,
     random_sheets: usize,
 }
@@ -107,12 +111,13 @@ impl Corpus {
         for cell in paper.cells() {
             let count = scale.pairs_in_cell;
             pairs.extend(pairs::pairs(&paper, cell, count, &mut random));
-            if scale.exact && matches!(cell.plan, 2 | 4) {
+            if scale.exact && UNKNOWN_DEVIATION.contains(&cell.plan) {
                 exact.extend(exact_series(&paper, cell, &mut random));
             }
         }
         Corpus {
             attributes: attributes::sheets(&paper),
+            corrected: corrected::sheets(),
             directed: directed_sheets(scale, &mut random),
             random_sheets: scale.random_sheets,
             paper,
@@ -121,7 +126,7 @@ impl Corpus {
         }
     }
 
-    /// The sheets that the paper chose, and what it asks for.
+    /// The sheets that come with the report asked for.
     pub fn chosen(&self) -> impl Iterator<Item = (Origin, &Chosen)> {
         let pairs = self.pairs.iter().flat_map(|pair| {
             let sheets = pair.sheets.iter();
@@ -130,9 +135,11 @@ impl Corpus {
         let exact = self.exact.iter();
         let exact = exact.map(|(cell, stand, chosen)| (Origin::Exact(*cell, *stand), chosen));
         let attributes = self.attributes.iter();
+        let corrected = self.corrected.iter();
         pairs
             .chain(exact)
             .chain(attributes.map(|chosen| (Origin::Attributes, chosen)))
+            .chain(corrected.map(|chosen| (Origin::Corrected, chosen)))
     }
 
     /// Shows every sheet with its origin.
@@ -170,9 +177,10 @@ fn exact_series(paper: &Paper, cell: Cell, random: &mut Random) -> Vec<(Cell, St
 fn directed_sheets(scale: Scale, random: &mut Random) -> Vec<(Origin, Vec<u8>)> {
     let in_service = labelled(Origin::InService, service::sheets());
     let mut directed: Vec<_> = in_service.step_by(scale.one_directed_in).collect();
-    for _ in 0..scale.rounds_of_damage {
+    for round in 0..scale.rounds_of_damage {
         directed.extend(damaged_sheets(random));
-        let longest = labelled(Origin::Longest, longest_sheets(random));
+        let plan = UP_TO_32[round % UP_TO_32.len()];
+        let longest = labelled(Origin::Longest, longest_sheets(plan, random));
         directed.extend(longest.step_by(scale.one_directed_in));
     }
     directed.extend(twice_damaged_sheets(random));
@@ -183,19 +191,26 @@ fn labelled(origin: Origin, sheets: Vec<Vec<u8>>) -> impl Iterator<Item = (Origi
     sheets.into_iter().map(move |sheet| (origin, sheet))
 }
 
+/// How many accepted sheets are looked through for one with a place for some damage.
+const TRIES: usize = 4;
+
 /// For each plan, every way to a refusal that has a place there.
 fn damaged_sheets(random: &mut Random) -> Vec<(Origin, Vec<u8>)> {
     let mut sheets = Vec::new();
-    for plan in 1..=4 {
+    for plan in 1..=PLANS {
         for (index, way) in WAYS.iter().enumerate() {
-            let mut sheet = accepted_sheet(plan, random);
-            let fits = (way.spoil)(&mut sheet, random);
-            if fits && (way.refusal == 1 || sheet.len() <= LONGEST_SHEET) {
-                sheets.push((Origin::Damage(index), sheet));
-            }
+            let sheet = (0..TRIES).find_map(|_| damaged_sheet(plan, way, random));
+            sheets.extend(sheet.map(|sheet| (Origin::Damage(index), sheet)));
         }
     }
     sheets
+}
+
+/// None where an accepted sheet has no place for the damage, or gets too long by it.
+fn damaged_sheet(plan: u8, way: &Way, random: &mut Random) -> Option<Vec<u8>> {
+    let mut sheet = accepted_sheet(plan, random);
+    let fits = (way.spoil)(&mut sheet, random);
+    (fits && (way.refusal == 1 || sheet.len() <= LONGEST_SHEET)).then_some(sheet)
 }
 
 /// Two faults on one sheet: the first record's holds, and in it the lowest number.
@@ -203,7 +218,7 @@ fn twice_damaged_sheets(random: &mut Random) -> Vec<(Origin, Vec<u8>)> {
     let mut sheets = Vec::new();
     for (one, first) in WAYS.iter().enumerate() {
         for (other, second) in WAYS.iter().enumerate() {
-            let plan = random.between(1, 4) as u8;
+            let plan = random.between(1, PLANS.into()) as u8;
             let mut sheet = accepted_sheet(plan, random);
             let spoilt = (first.spoil)(&mut sheet, random);
             if spoilt && starts_with_pollutant(&sheet) && (second.spoil)(&mut sheet, random) {
@@ -228,9 +243,12 @@ fn accepted_sheet(plan: u8, random: &mut Random) -> Vec<u8> {
     }
 }
 
+/// The plans of the longest sheets, whose last row is 32.
+const UP_TO_32: [u8; 3] = [1, 2, 5];
+
 /// Four pollutants, 32 engines and a stop, whole and with each damage that keeps the length.
-fn longest_sheets(random: &mut Random) -> Vec<Vec<u8>> {
-    let sheet = longest_draft(random).bytes();
+fn longest_sheets(plan: u8, random: &mut Random) -> Vec<Vec<u8>> {
+    let sheet = longest_draft(plan, random).bytes();
     let mut sheets = vec![sheet.clone()];
     for way in &WAYS {
         let mut spoilt = sheet.clone();
@@ -241,16 +259,16 @@ fn longest_sheets(random: &mut Random) -> Vec<Vec<u8>> {
     sheets
 }
 
-fn longest_draft(random: &mut Random) -> Draft {
+fn longest_draft(plan: u8, random: &mut Random) -> Draft {
     loop {
         let mut draft = random_draft(random);
-        if draft.plan > 2 || draft.pollutants.len() < 4 || draft.engines.is_empty() {
+        if draft.plan != plan || draft.pollutants.len() < 4 || draft.engines.is_empty() {
             continue;
         }
-        while draft.engines.len() < Document01.last_row(draft.plan) {
+        while draft.engines.len() < Document01.last_row(plan) {
             draft.engines.push(random.pick(&draft.engines));
         }
-        draft.engines.truncate(Document01.last_row(draft.plan));
+        draft.engines.truncate(Document01.last_row(plan));
         draft.stopped = true;
         return draft;
     }

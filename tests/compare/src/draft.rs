@@ -1,7 +1,7 @@
 //! A sheet in the making, as document 01's records describe it.
 
 use random::Random;
-use second::{judge, Document, Document01, Judgement, Verdict, RECORD};
+use second::{judge, Document, Document01, Judgement, Verdict, PLANS, RECORD};
 
 pub const LARGEST: u32 = 9_999_999;
 
@@ -112,7 +112,7 @@ pub fn stop_record() -> [u8; RECORD] {
 /// A random sheet that the check accepts, or now and then one with an engine too many or with a
 /// stop under plan 4.
 pub fn random_draft(random: &mut Random) -> Draft {
-    let plan = random.between(1, 4) as u8;
+    let plan = random.between(1, PLANS.into()) as u8;
     let mut draft = Draft::new(plan, random_pollutants(random, plan));
     let spreads: Vec<Spread> = draft
         .pollutants

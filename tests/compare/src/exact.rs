@@ -1,4 +1,4 @@
-//! Series of plans 2 and 4 whose W is exact to the unit. They stand on a line, P = c x root of W
+//! Series of plans 2, 4 and 5 whose W is exact to the unit. They stand on a line, P = c x root of W
 //! with W above zero, which alone tells "at most" from "less than" there; or their W is the last
 //! whole number that decides, or one unit beyond it, which tells W from W plus or minus one.
 //!
@@ -132,7 +132,8 @@ fn beside_line(
 }
 
 /// With c below 0, and on a fail line, P^2 has to be at least c^2 W: the last W that decides is
-/// P^2 / c^2 rounded down. In plan 4's last row P^2 has to be at most c^2 W: it is rounded up.
+/// P^2 / c^2 rounded down. With a pass number above 0, in plan 4's last row and in plan 5's last
+/// two, P^2 has to be at most c^2 W: it is rounded up.
 fn w_beside(line: Line, c: i64, sum: i64, stand: Stand) -> i64 {
     let p = 100_000 * i128::from(sum);
     let (p2, c2) = (p * p, i128::from(c) * i128::from(c));

@@ -6,6 +6,7 @@
 pub mod attributes;
 pub mod cases;
 pub mod corpus;
+pub mod corrected;
 pub mod declared;
 pub mod draft;
 pub mod exact;

@@ -6,15 +6,15 @@
 
 use crate::draft::{Draft, Pollutant};
 use crate::tally::Tally;
-use second::{Column, Decision, Document, Document01, Ground, Verdict, REPORT};
+use second::{Column, Decision, Document, Document01, Ground, Verdict, PLANS, REPORT};
 
 const PAGE: &str = concat!(env!("CARGO_MANIFEST_DIR"), "/../../docs/FORMAT.md");
 const HEADER: &str =
-    "| n | 1: A | 1: B | 2: A | 2: B | 3: pass up to | 3: fail from | 4: A | 4: B |";
+    "| n | 1: A | 1: B | 2: A | 2: B | 3: pass up to | 3: fail from | 4: A | 4: B | 5: A | 5: B |";
 
 /// The decision numbers of each plan, row 3 first.
 pub struct Paper {
-    plans: [Vec<Numbers>; 4],
+    plans: [Vec<Numbers>; PLANS as usize],
 }
 
 /// None where the page says "never" or "none".
@@ -71,11 +71,13 @@ impl Paper {
     pub fn read() -> Self {
         let page = std::fs::read_to_string(PAGE).expect("docs/FORMAT.md can be read");
         let table = page.lines().skip_while(|line| *line != HEADER).skip(2);
-        let mut plans = [const { Vec::new() }; 4];
+        let mut plans = [const { Vec::new() }; PLANS as usize];
         for (n, line) in (3..).zip(table.take_while(|line| line.starts_with('|'))) {
-            let cells: Vec<&str> = line.split('|').map(str::trim).collect();
-            assert_eq!(cells[1], n.to_string(), "the rows follow each other");
-            for (plan, pair) in plans.iter_mut().zip(cells[2..10].chunks(2)) {
+            let cells: Vec<&str> = line.trim_matches('|').split('|').map(str::trim).collect();
+            assert_eq!(cells[0], n.to_string(), "the rows follow each other");
+            let pairs = cells[1..].chunks(2);
+            assert_eq!(pairs.len(), plans.len(), "two columns for each plan");
+            for (plan, pair) in plans.iter_mut().zip(pairs) {
                 if pair != ["", ""] {
                     assert_eq!(plan.len() + 3, n, "no row is left out");
                     let (pass, fail) = (number(pair[0]), number(pair[1]));
@@ -116,7 +118,7 @@ impl Paper {
     ///   the count rises by at most one an engine, so what fails at an even n has failed sooner.
     pub fn cells(&self) -> Vec<Cell> {
         let mut cells = Vec::new();
-        for plan in 1..=4 {
+        for plan in 1..=PLANS {
             let last = self.last_row(plan);
             for row in 3..last {
                 let lines: &[Line] = match (plan, row % 2) {
@@ -162,32 +164,21 @@ impl Paper {
         (Decision::Open, sums.n)
     }
 
-    /// The series as a sheet, with its report: mark, verdict, ground, engine, four pairs.
+    /// The series as a sheet, with its report.
     pub fn chosen(&self, series: &Single) -> Chosen {
         let (decision, n) = self.outcome(series);
-        let (verdict, ground) = match decision {
-            Decision::Open => (Verdict::Another, Ground::None),
-            Decision::Pass => (Verdict::Pass, Ground::Row),
-            Decision::Fail => (Verdict::Fail, Ground::Row),
-        };
-        let mut report = [0; REPORT];
-        report[..4].copy_from_slice(&[16, verdict as u8, ground as u8, n as u8]);
-        if decision != Decision::Open {
-            let place = 2 + 2 * usize::from(series.pollutant.number);
-            report[place..place + 2].copy_from_slice(&[decision as u8, n as u8]);
-        }
-        let sheet = series.bytes();
-        Chosen { sheet, report }
+        series.with_report(decision, n)
     }
 
-    /// The page's table against the printed columns. These have no fail number in a last row, which
-    /// needs none.
+    /// The page's table against the printed columns. Of these, plan 5's alone has a fail number in
+    /// the last row, which needs none.
     pub fn compare_with_printed(&self, tally: &mut Tally) {
-        for plan in 1..=4 {
+        for plan in 1..=PLANS {
             for n in 3..=self.last_row(plan) {
                 let numbers = self.numbers(plan, n);
                 let printed = |column| Document01.number(plan, column, n).map(i128::from);
-                let fail = numbers.fail.filter(|_| n < self.last_row(plan));
+                let has_fail = plan == 5 || n < self.last_row(plan);
+                let fail = numbers.fail.filter(|_| has_fail);
                 let expected = [printed(Column::Pass), printed(Column::Fail)];
                 let what = || format!("the numbers of docs/FORMAT.md, plan {plan}, row {n}");
                 tally.compare(&[], what, [numbers.pass, fail], expected);
@@ -216,6 +207,24 @@ impl Single {
             draft.test(measurements, 0);
         }
         draft.bytes()
+    }
+
+    /// The sheet, with the report of a decision at row n, or of none after n engines: mark,
+    /// verdict, ground, engine, four pairs.
+    pub fn with_report(&self, decision: Decision, n: usize) -> Chosen {
+        let (verdict, ground) = match decision {
+            Decision::Open => (Verdict::Another, Ground::None),
+            Decision::Pass => (Verdict::Pass, Ground::Row),
+            Decision::Fail => (Verdict::Fail, Ground::Row),
+        };
+        let mut report = [0; REPORT];
+        report[..4].copy_from_slice(&[16, verdict as u8, ground as u8, n as u8]);
+        if decision != Decision::Open {
+            let place = 2 + 2 * usize::from(self.pollutant.number);
+            report[place..place + 2].copy_from_slice(&[decision as u8, n as u8]);
+        }
+        let sheet = self.bytes();
+        Chosen { sheet, report }
     }
 }
 
@@ -246,16 +255,18 @@ impl Sums {
     fn pass(&self, plan: u8, a: i128) -> bool {
         match plan {
             1 => -self.d * 693_147_181 > a * i128::from(self.pollutant.deviation) * 65_536,
+            2 | 4 | 5 => self.p() <= self.root(a),
             3 => self.over <= a,
-            _ => self.p() <= self.root(a),
+            _ => unreachable!("the page has no plan {plan}"),
         }
     }
 
     fn fail(&self, plan: u8, b: i128) -> bool {
         match plan {
             1 => -self.d * 693_147_181 < b * i128::from(self.pollutant.deviation) * 65_536,
+            2 | 4 | 5 => self.p() >= self.root(b),
             3 => self.over >= b,
-            _ => self.p() >= self.root(b),
+            _ => unreachable!("the page has no plan {plan}"),
         }
     }
 

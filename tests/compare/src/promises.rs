@@ -1,35 +1,47 @@
 //! Demand 3 as a property of random sheets, on the second implementation itself: a decision is
 //! kept by every longer sheet, a full sheet is decided, and under plans 1 and 3 lower
-//! measurements never make a pass later or a fail sooner.
+//! measurements never make a pass later or a fail sooner. Of plan 5, F-6 says: "Keeping a decision
+//! and ending at 32 hold for it too."
 
 use crate::draft::{random_draft, Draft};
 use crate::tally::Tally;
 use random::Random;
-use second::{check, judge, Document, Document01, Judgement, Verdict, RECORD};
+use second::{check, judge, Document, Document01, Judgement, Verdict, PLANS, RECORD};
+use std::collections::BTreeMap;
+
+/// How often a promise was put to the test, by plan.
+type Counts = BTreeMap<u8, u64>;
 
 /// Looks at `count` accepted sheets and prints how often each promise was put to the test.
 pub fn keep(count: usize, tally: &mut Tally) {
     let mut random = Random::new(0xD3);
-    let mut counts = [0u64; 3];
+    let [mut kept, mut full, mut lower] = [const { Counts::new() }; 3];
     for _ in 0..count {
         let draft = random_draft(&mut random);
         if check(&Document01, &draft.bytes()).is_err() {
             continue;
         }
-        counts[0] += decision_is_kept(&draft, tally);
-        counts[1] += full_is_decided(&draft, tally);
-        counts[2] += lower_is_no_worse(&draft, &mut random, tally);
+        *kept.entry(draft.plan).or_default() += decision_is_kept(&draft, tally);
+        *full.entry(draft.plan).or_default() += full_is_decided(&draft, tally);
+        *lower.entry(draft.plan).or_default() += lower_is_no_worse(&draft, &mut random, tally);
     }
     println!("demand 3 on the second implementation:");
-    println!(
-        "  {} decided sheets, each begun by another: the decision is kept",
-        counts[0]
-    );
-    println!("  {} full sheets: decided", counts[1]);
-    println!(
-        "  {} sheets under plans 1 and 3 with lower measurements: no worse",
-        counts[2]
-    );
+    let all: Vec<u8> = (1..=PLANS).collect();
+    let begun = "decided sheets, each begun by another: the decision is kept";
+    print_counts(begun, &kept, &all, tally);
+    print_counts("full sheets: decided", &full, &all, tally);
+    let lowered = "sheets with lower measurements: no worse";
+    print_counts(lowered, &lower, &[1, 3], tally);
+}
+
+/// A line for each of the plans that promise it.
+fn print_counts(promise: &str, counts: &Counts, plans: &[u8], tally: &mut Tally) {
+    for plan in plans {
+        match counts.get(plan) {
+            Some(count @ 1..) => println!("  plan {plan}: {count} {promise}"),
+            _ => tally.gap(&format!("plan {plan}, {promise}")),
+        }
+    }
 }
 
 fn decision_is_kept(draft: &Draft, tally: &mut Tally) -> u64 {

@@ -3,7 +3,7 @@
 
 use crate::draft::stop_record;
 use random::Random;
-use second::{Document, Document01, LONGEST_SHEET, RECORD};
+use second::{Document, Document01, LONGEST_SHEET, PLANS, RECORD};
 
 /// One way to a refusal. `spoil` tells whether the sheet had a place for it.
 pub struct Way {
@@ -24,7 +24,7 @@ const fn way(refusal: u8, name: &'static str, spoil: fn(&mut Vec<u8>, &mut Rando
     }
 }
 
-pub const WAYS: [Way; 41] = [
+pub const WAYS: [Way; 42] = [
     way(1, "no bytes", |sheet, _| {
         sheet.clear();
         true
@@ -94,15 +94,18 @@ pub const WAYS: [Way; 41] = [
     way(5, "plan 0", |sheet, random| {
         set(sheet, random, is_pollutant, 2..3, |_| 0)
     }),
-    way(5, "plan 5 to 255", |sheet, random| {
+    way(5, "plan 6", |sheet, random| {
+        set(sheet, random, is_pollutant, 2..3, |_| PLANS + 1)
+    }),
+    way(5, "plan 7 to 255", |sheet, random| {
         set(sheet, random, is_pollutant, 2..3, |random| {
-            random.between(5, 255) as u8
+            random.between(u32::from(PLANS) + 2, 255) as u8
         })
     }),
     way(5, "plan unlike the first", |sheet, random| {
         let last = end_of(sheet, POLLUTANT) - RECORD;
-        sheet[last + 2] = sheet[2] % 4 + random.pick(&[1, 1, 2, 3]);
-        last > 0 && sheet[last + 2] <= 4 && sheet[last + 2] != sheet[2]
+        sheet[last + 2] = random.between(1, PLANS.into()) as u8;
+        last > 0 && sheet[last + 2] != sheet[2]
     }),
     way(6, "limit 0", |sheet, random| {
         set_u32(sheet, random, is_pollutant, 4, |_| 0)
@@ -145,7 +148,7 @@ pub const WAYS: [Way; 41] = [
             })
         },
     ),
-    way(9, "cause in plans 1 to 3", |sheet, random| {
+    way(9, "cause outside plan 4", |sheet, random| {
         sheet[2] != 4
             && set(sheet, random, is_engine, 2..4, |random| {
                 random.pick(&[1, 7, 255])

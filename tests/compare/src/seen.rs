@@ -1,11 +1,13 @@
-//! What the compared answers showed: every refusal, every verdict with its ground, and a pair in
-//! every cell of the table of lines. What was never seen was never compared.
+//! What the compared answers showed: every refusal, every verdict with its ground under every plan
+//! that can end so, and a pair in every cell of the table of lines. What was never seen was never
+//! compared.
 
-use crate::cases::Answer;
+use crate::cases::{Answer, Case};
 use crate::corpus::Corpus;
 use crate::exact::Stand;
 use crate::paper::{Cell, Line};
 use crate::tally::Tally;
+use second::{PLANS, UNKNOWN_DEVIATION};
 use std::collections::BTreeMap;
 
 /// Verdict and ground as they go together.
@@ -21,16 +23,26 @@ const ENDINGS: [(u8, u8, &str); 6] = [
 #[derive(Default)]
 pub struct Seen {
     refusals: BTreeMap<u8, u64>,
-    endings: BTreeMap<(u8, u8), u64>,
+    /// By plan, verdict and ground.
+    endings: BTreeMap<(u8, u8, u8), u64>,
+}
+
+/// Equal cause and referral are plan 4's, which has no stop.
+fn can_end(plan: u8, ground: u8) -> bool {
+    match ground {
+        2 | 4 => plan == 4,
+        3 => plan != 4,
+        _ => true,
+    }
 }
 
 impl Seen {
-    pub fn note(&mut self, is_report: bool, answer: &Answer) {
+    pub fn note(&mut self, case: &Case, answer: &Answer) {
         let number = (answer.code / 256) as u8;
         if number > 0 {
             *self.refusals.entry(number).or_default() += 1;
-        } else if is_report {
-            let ending = (answer.bytes[1], answer.bytes[2]);
+        } else if let Case::Report { sheet, .. } = case {
+            let ending = (sheet[2], answer.bytes[1], answer.bytes[2]);
             *self.endings.entry(ending).or_default() += 1;
         }
     }
@@ -42,10 +54,13 @@ impl Seen {
                 None => tally.gap(&format!("refusal {number}")),
             }
         }
-        for (verdict, ground, name) in ENDINGS {
-            match self.endings.get(&(verdict, ground)) {
-                Some(count) => println!("  {name}: {count} answers"),
-                None => tally.gap(name),
+        for plan in 1..=PLANS {
+            let endings = ENDINGS.into_iter();
+            for (verdict, ground, name) in endings.filter(|ending| can_end(plan, ending.1)) {
+                match self.endings.get(&(plan, verdict, ground)) {
+                    Some(count) => println!("  plan {plan}, {name}: {count} answers"),
+                    None => tally.gap(&format!("plan {plan}, {name}")),
+                }
             }
         }
     }
@@ -54,7 +69,7 @@ impl Seen {
 /// The table of pairs: a dash where no series can decide.
 pub fn print_pairs(corpus: &Corpus, tally: &mut Tally) {
     println!("pairs on a line (plan, row, pass, fail; = where pass and fail share the line)");
-    print_table(corpus, &[1, 2, 3, 4], 1, tally, |cell| {
+    print_table(corpus, 1..=PLANS, 1, tally, |cell| {
         let pairs = corpus.pairs.iter();
         vec![pairs.filter(|pair| pair.cell == cell).count()]
     });
@@ -65,18 +80,19 @@ pub fn print_pairs(corpus: &Corpus, tally: &mut Tally) {
 /// how many one unit beyond; one for each pollutant has to be there.
 pub fn print_exact(corpus: &Corpus, tally: &mut Tally) {
     println!("series with the last W that decides/one unit beyond, by plan, row and line");
-    print_table(corpus, &[2, 4], 4, tally, |cell| {
+    print_table(corpus, UNKNOWN_DEVIATION, 4, tally, |cell| {
         [Stand::Deciding, Stand::Beyond]
             .map(|stand| count_exact(corpus, cell, stand))
             .into()
     });
     let found = |cell: &Cell| count_exact(corpus, *cell, Stand::OnLine) > 0;
-    for (plan, fail) in [(2, false), (2, true), (4, false), (4, true)] {
-        let cells = corpus.paper.cells().into_iter();
-        let cells = cells.filter(|cell| cell.plan == plan && (cell.line == Line::Fail) == fail);
-        let rows: Vec<usize> = cells.filter(found).map(|cell| cell.row).collect();
-        let line = if fail { "fail" } else { "pass" };
-        println!("series on the {line} line itself, plan {plan}: rows {rows:?}");
+    for plan in UNKNOWN_DEVIATION {
+        for (fail, line) in [(false, "pass"), (true, "fail")] {
+            let cells = corpus.paper.cells().into_iter();
+            let cells = cells.filter(|cell| cell.plan == plan && (cell.line == Line::Fail) == fail);
+            let rows: Vec<usize> = cells.filter(found).map(|cell| cell.row).collect();
+            println!("series on the {line} line itself, plan {plan}: rows {rows:?}");
+        }
     }
 }
 
@@ -91,7 +107,7 @@ fn count_exact(corpus: &Corpus, cell: Cell, stand: Stand) -> usize {
 /// many.
 fn print_table(
     corpus: &Corpus,
-    plans: &[u8],
+    plans: impl IntoIterator<Item = u8>,
     least: usize,
     tally: &mut Tally,
     counts: impl Fn(Cell) -> Vec<usize>,
@@ -108,7 +124,7 @@ fn print_table(
         let counts: Vec<String> = counts.iter().map(usize::to_string).collect();
         Some(counts.join("/"))
     };
-    for &plan in plans {
+    for plan in plans {
         for row in 3..=corpus.paper.last_row(plan) {
             let lines = [Line::Pass, Line::Fail, Line::Last];
             let [pass, fail, last] = lines.map(|line| shown(Cell { plan, row, line }));

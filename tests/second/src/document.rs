@@ -18,6 +18,14 @@ impl Document for Document01 {}
 /// values of F-4 "whole thousandths of g/km, 1 to 9,999,999".
 const LARGEST: u32 = 9_999_999;
 
+/// How many plans there are: document 01's four, and the corrected sheet of F-6, which "becomes
+/// plan 5".
+pub const PLANS: u8 = 5;
+
+/// The plans of unknown deviation, whose rows compare P with roots of W: plan 2, plan 4 with "rows
+/// as plan 2", and plan 5, "otherwise as plan 2" (F-6).
+pub const UNKNOWN_DEVIATION: [u8; 3] = [2, 4, 5];
+
 pub trait Document {
     // ---- The logarithm
 
@@ -128,12 +136,18 @@ pub trait Document {
         2 * u64::from(x) > 3 * u64::from(limit)
     }
 
-    /// "In plan 4 its cause is 1 to 65,534".
+    /// "In plan 4 its cause is 1 to 65,534 [..]; in plans 1 to 3 cause is 0", and so it is in plan
+    /// 5, which is "otherwise as plan 2" (F-6).
+    fn has_causes(&self, plan: u8) -> bool {
+        plan == 4
+    }
+
+    /// A gross emitter's cause "is 1 to 65,534".
     fn gross_cause_fits(&self, cause: u16) -> bool {
         (1..=65_534).contains(&cause)
     }
 
-    /// "Any other vehicle's is 0; in plans 1 to 3 cause is 0."
+    /// "Any other vehicle's is 0", as is every cause outside plan 4.
     fn other_cause_fits(&self, cause: u16) -> bool {
         cause == 0
     }
@@ -146,12 +160,14 @@ pub trait Document {
 
     // ---- Plans
 
-    /// "The last row belongs to the plan: 32, 32, 19 and 15 engines."
+    /// "The last row belongs to the plan: 32, 32, 19 and 15 engines", and for plan 5 "ending at 32"
+    /// (F-6). What refusal 5 does not admit as a plan has no row.
     fn last_row(&self, plan: u8) -> usize {
         match plan {
-            1 | 2 => 32,
+            1 | 2 | 5 => 32,
             3 => 19,
-            _ => 15,
+            4 => 15,
+            _ => 0,
         }
     }
 
@@ -178,8 +194,9 @@ pub trait Document {
         };
         match row.plan {
             1 => self.is_above(row, a),
+            2 | 4 | 5 => self.reaches(Column::Pass, row, a),
             3 => row.c <= a,
-            _ => self.reaches(Column::Pass, row, a),
+            _ => false,
         }
     }
 
@@ -193,12 +210,13 @@ pub trait Document {
         };
         match row.plan {
             1 => self.is_below(row, b),
+            2 | 4 | 5 => self.reaches(Column::Fail, row, b),
             3 => row.c >= b,
-            _ => self.reaches(Column::Fail, row, b),
+            _ => false,
         }
     }
 
-    /// "In the last row, what doesn't pass fails."
+    /// "In the last row, what doesn't pass fails": B is not looked at there, not even plan 5's.
     fn fails_in_last_row(&self, _: &Row) -> bool {
         true
     }
@@ -223,7 +241,7 @@ pub trait Document {
         693_147_181
     }
 
-    /// Plans 2 and 4: "P = 100,000 x D. Pass if P <= A root W, fail if P >= B root W".
+    /// Plans 2, 4 and 5: "P = 100,000 x D. Pass if P <= A root W, fail if P >= B root W".
     fn reaches(&self, column: Column, row: &Row, number: i64) -> bool {
         let (p, w) = (100_000 * i128::from(row.d), self.w(row));
         match column {
@@ -413,9 +431,9 @@ pub trait Document {
         (1..=4).contains(&number) && number > before
     }
 
-    /// "5, plan not 1 to 4 or unlike the first".
+    /// "5, plan not 1 to 4 or unlike the first"; and of F-6: "Refusal 5 admits plan 5."
     fn plan_fits(&self, plan: u8, so_far: &Series) -> bool {
-        (1..=4).contains(&plan) && (so_far.declared == 0 || plan == so_far.plan)
+        (1..=PLANS).contains(&plan) && (so_far.declared == 0 || plan == so_far.plan)
     }
 
     /// The lowest of "8, measurement [..]; 9, cause; 10, more engines than the last row; [..] 12,
@@ -453,7 +471,7 @@ pub trait Document {
                 so_far.limits[pollutant],
             )
         };
-        if so_far.plan == 4 && (0..4).any(is_gross) {
+        if self.has_causes(so_far.plan) && (0..4).any(is_gross) {
             self.gross_cause_fits(self.cause(record))
         } else {
             self.other_cause_fits(self.cause(record))

@@ -1,7 +1,8 @@
-//! Document 01's own cases: "Series that stand on a line", and its printed example.
+//! Document 01's own cases: "Series that stand on a line", and its printed example; and of
+//! document 02 those of F-6, the corrected sheet.
 
 use second::{append, evidence, judge, lines};
-use second::{Decision, Document, Document01, Ground, Refusal, Verdict};
+use second::{Column, Decision, Document, Document01, Ground, Refusal, Verdict};
 
 fn pollutant(number: u8, plan: u8, limit: u32, deviation: u32) -> [u8; 20] {
     let mut record = [0; 20];
@@ -32,6 +33,11 @@ fn sheet(plan: u8, limit: u32, deviation: u32, vehicles: &[(u16, u32)]) -> Vec<u
 fn verdict(sheet: &[u8]) -> (Verdict, u8, Ground) {
     let judgement = judge(&Document01, sheet).expect("accepted");
     (judgement.verdict, judgement.engine, judgement.ground)
+}
+
+fn refusal(sheet: &[u8]) -> (u8, u8) {
+    let Refusal { number, record } = judge(&Document01, sheet).expect_err("refused");
+    (number, record)
 }
 
 const ANOTHER_AT_3: (Verdict, u8, Ground) = (Verdict::Another, 3, Ground::None);
@@ -73,20 +79,10 @@ fn plan_2() {
 
 #[test]
 fn plan_4() {
-    let refused_cause = Err(Refusal {
-        number: 9,
-        record: 1,
-    });
     assert!(judge(&Document01, &sheet(4, 1000, 0, &[(0, 1500)])).is_ok());
-    assert_eq!(
-        judge(&Document01, &sheet(4, 1000, 0, &[(7, 1500)])),
-        refused_cause
-    );
+    assert_eq!(refusal(&sheet(4, 1000, 0, &[(7, 1500)])), (9, 1));
     assert!(judge(&Document01, &sheet(4, 1000, 0, &[(7, 1501)])).is_ok());
-    assert_eq!(
-        judge(&Document01, &sheet(4, 1000, 0, &[(0, 1501)])),
-        refused_cause
-    );
+    assert_eq!(refusal(&sheet(4, 1000, 0, &[(0, 1501)])), (9, 1));
     let three = |causes: [u16; 2]| {
         verdict(&sheet(
             4,
@@ -97,6 +93,83 @@ fn plan_4() {
     };
     assert_eq!(three([7, 7]), (Verdict::Fail, 3, Ground::EqualCause));
     assert_eq!(three([7, 8]), ANOTHER_AT_3);
+}
+
+/// So many times 4000 and 1000, which are double and half of the limit 2000.
+fn in_turn(times: usize) -> Vec<u32> {
+    [4000, 1000].repeat(times)
+}
+
+/// Of a sheet with limit 2000 and these measurements.
+fn verdict_of(plan: u8, measurements: &[u32]) -> (Verdict, u8, Ground) {
+    let vehicles: Vec<(u16, u32)> = measurements.iter().map(|&x| (0, x)).collect();
+    verdict(&sheet(plan, 2000, 0, &vehicles))
+}
+
+const PASS_AT_31: (Verdict, u8, Ground) = (Verdict::Pass, 31, Ground::Row);
+const ANOTHER_AT_31: (Verdict, u8, Ground) = (Verdict::Another, 31, Ground::None);
+const PASS_AT_32: (Verdict, u8, Ground) = (Verdict::Pass, 32, Ground::Row);
+const FAIL_AT_32: (Verdict, u8, Ground) = (Verdict::Fail, 32, Ground::Row);
+
+/// F-6: "A is 449 at 31, A and B are 3876 at 32 [..], otherwise as plan 2".
+#[test]
+fn plan_5_numbers() {
+    let [plan_2, plan_5] = [2, 5].map(|plan| {
+        move |n| [Column::Pass, Column::Fail].map(|column| Document01.number(plan, column, n))
+    });
+    for n in 3..=30 {
+        assert_eq!(plan_5(n), plan_2(n), "row {n}");
+    }
+    assert_eq!(plan_2(31), [Some(-449), Some(5629)]);
+    assert_eq!(plan_5(31), [Some(449), Some(5629)]);
+    assert_eq!(plan_5(32), [Some(3876), Some(3876)]);
+    assert_eq!(plan_5(33), [None, None]);
+}
+
+#[test]
+fn plan_5_row_31() {
+    let first_then_in_turn = |plan, x| verdict_of(plan, &[vec![x], in_turn(15)].concat());
+    for x in [1900, 2000, 2199] {
+        assert_eq!(first_then_in_turn(2, x), ANOTHER_AT_31, "{x}");
+        assert_eq!(first_then_in_turn(5, x), PASS_AT_31, "{x}");
+    }
+    for plan in [2, 5] {
+        assert_eq!(first_then_in_turn(plan, 1500), PASS_AT_31);
+        assert_eq!(first_then_in_turn(plan, 2200), ANOTHER_AT_31);
+    }
+}
+
+#[test]
+fn plan_5_row_32() {
+    let in_turn_then_last = |plan, x| verdict_of(plan, &[in_turn(15), vec![4000, x]].concat());
+    for x in [500, 1000, 2330] {
+        assert_eq!(in_turn_then_last(2, x), FAIL_AT_32, "{x}");
+        assert_eq!(in_turn_then_last(5, x), PASS_AT_32, "{x}");
+    }
+    for plan in [2, 5] {
+        assert_eq!(in_turn_then_last(plan, 250), PASS_AT_32);
+        assert_eq!(in_turn_then_last(plan, 2331), FAIL_AT_32);
+    }
+}
+
+/// "Refusal 5 admits plan 5", and the others are plan 2's.
+#[test]
+fn plan_5_refusals() {
+    let two_plans = |one, other| [pollutant(1, one, 2000, 0), pollutant(2, other, 2000, 0)];
+    assert_eq!(refusal(&sheet(6, 2000, 0, &[])), (5, 0));
+    assert_eq!(refusal(two_plans(2, 5).as_flattened()), (5, 1));
+    assert_eq!(refusal(two_plans(5, 2).as_flattened()), (5, 1));
+    assert_eq!(refusal(&sheet(5, 2000, 1, &[])), (7, 0));
+    assert_eq!(refusal(&sheet(5, 2000, 0, &[(7, 4000)])), (9, 1));
+    assert_eq!(refusal(&sheet(5, 2000, 0, &[(0, 2000); 33])), (10, 33));
+}
+
+#[test]
+fn plan_5_stopped() {
+    let mut sheet = sheet(5, 2000, 0, &[(0, 4000), (0, 1000)]);
+    sheet.push(3);
+    sheet.resize(80, 0);
+    assert_eq!(verdict(&sheet), (Verdict::Fail, 2, Ground::Stopped));
 }
 
 #[test]

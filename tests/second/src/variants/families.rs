@@ -2,7 +2,7 @@
 //! logarithm of one m, and the equality of causes.
 
 use super::{wrong, Family, Wrong};
-use crate::document::{Document, Document01};
+use crate::document::{Document, Document01, PLANS, UNKNOWN_DEVIATION};
 use crate::judge::Row;
 use crate::tables::Column;
 
@@ -62,7 +62,7 @@ impl Document for CauseIgnored {
 /// Every printed number one unit more, and one unit less.
 pub fn decision_numbers() -> Vec<Family> {
     let mut families = Vec::new();
-    for plan in 1..=4 {
+    for plan in 1..=PLANS {
         for column in [Column::Pass, Column::Fail] {
             for by in [1, -1] {
                 let title = format!("plan {plan}, {column:?} numbers off by {by:+}");
@@ -76,12 +76,14 @@ pub fn decision_numbers() -> Vec<Family> {
 }
 
 /// Plan 3 passes nothing new at an odd n but the last, and fails nothing new at an even n: there
-/// its pass number one less, and its fail number one more, is the same plan.
+/// its pass number one less, and its fail number one more, is the same plan. "In the last row, what
+/// doesn't pass fails": the fail number that plan 5 has there decides nothing, whatever it is.
 fn number_off(plan: u8, column: Column, n: usize, by: i64) -> Option<Wrong> {
     let odd = n % 2 == 1;
+    let last = n == Document01.last_row(plan);
     let same = match column {
-        Column::Pass => plan == 3 && by < 0 && odd && n < Document01.last_row(plan),
-        Column::Fail => plan == 3 && by > 0 && !odd,
+        Column::Pass => plan == 3 && by < 0 && odd && !last,
+        Column::Fail => last || plan == 3 && by > 0 && !odd,
     };
     let is = Document01.number(plan, column, n)? + by;
     let number = Number {
@@ -96,7 +98,7 @@ fn number_off(plan: u8, column: Column, n: usize, by: i64) -> Option<Wrong> {
 /// W one unit more, and one unit less, in every row that asks for it.
 pub fn variances() -> Vec<Family> {
     let mut families = Vec::new();
-    for plan in [2, 4] {
+    for plan in UNKNOWN_DEVIATION {
         for by in [1, -1] {
             let title = format!("plan {plan}, W off by {by:+}");
             let rows = 3..=Document01.last_row(plan);

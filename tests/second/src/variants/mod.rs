@@ -1,10 +1,12 @@
 //! The wrong readings: each is document 01 and the landed requests of document 02 with one
 //! sentence misread, and each has to be noticed by the comparison.
 //!
-//! Two wrong readings are missing because no sheet can tell them from the right ones.
+//! Three wrong readings are missing because no sheet can tell them from the right ones.
 //! "≥ in plan 1" differs only where T x 693,147,181 = A x t x 65,536; 693,147,181 is a prime
-//! above every A and every t, and no A is zero, so the two sides are never equal. And in the
-//! logarithm Q is a square, which 2^63 is not, so "Q > 2^63" is the same as "Q >= 2^63".
+//! above every A and every t, and no A is zero, so the two sides are never equal. In the
+//! logarithm Q is a square, which 2^63 is not, so "Q > 2^63" is the same as "Q >= 2^63". And in
+//! row 32 of plan 5 A and B are the same number, so that P >= B root W wherever P is above A root
+//! W: "fail by B" fails there just what doesn't pass.
 
 mod declared;
 mod families;

@@ -2,7 +2,7 @@
 
 use super::{wrong, Number, Wrong};
 use crate::check::{Record, Refusal, Series, LONGEST_SHEET, RECORD};
-use crate::document::{Document, Document01};
+use crate::document::{Document, Document01, PLANS};
 use crate::judge::{Decision, Ending, GrossEmitters, Ground, Judgement, Row, Verdict};
 use crate::operations::REPORT;
 use crate::tables::Column;
@@ -13,6 +13,8 @@ pub fn report_and_append() -> Vec<Wrong> {
     all.extend(plans_1_and_2());
     all.extend(plan_3());
     all.extend(plan_4());
+    all.extend(plan_5());
+    all.extend(pass_numbers_above_zero());
     all.extend(stops());
     all.extend(refusals());
     all.extend(operations());
@@ -185,6 +187,15 @@ fn plans_1_and_2() -> Vec<Wrong> {
                 is: 449,
             },
         ),
+        Wrong::new(
+            "plan 2: A at 32 is +3876",
+            Number {
+                plan: 2,
+                column: Column::Pass,
+                n: 32,
+                is: 3876,
+            },
+        ),
         wrong!(
             "plan 2: row 32 fails only from 3879 on",
             fn fails_in_last_row(&self, row: &Row) -> bool {
@@ -249,24 +260,6 @@ fn plan_4() -> Vec<Wrong> {
                 n: 15,
                 is: -46191,
             },
-        ),
-        wrong!(
-            "plan 4: row 15 passes only below A",
-            fn at_most_root(&self, p: i128, a: i64, w: i128) -> bool {
-                let on_line = a >= 0 && p > 0 && p * p == i128::from(a) * i128::from(a) * w;
-                Document01.at_most_root(p, a, w) && !on_line
-            }
-        ),
-        wrong!(
-            "plan 4: row 15 passes only by squares",
-            fn at_most_root(&self, p: i128, a: i64, w: i128) -> bool {
-                let by_squares = p * p <= i128::from(a) * i128::from(a) * w;
-                if a >= 0 {
-                    by_squares
-                } else {
-                    Document01.at_most_root(p, a, w)
-                }
-            }
         ),
         wrong!(
             "gross emitter from 2x = 3L on",
@@ -340,6 +333,120 @@ fn plan_4() -> Vec<Wrong> {
     ]
 }
 
+/// Document 02, F-6.
+fn plan_5() -> Vec<Wrong> {
+    vec![
+        Wrong::new(
+            "plan 5: A at 31 is plan 2's",
+            Number {
+                plan: 5,
+                column: Column::Pass,
+                n: 31,
+                is: -449,
+            },
+        ),
+        Wrong::new(
+            "plan 5: A at 32 is plan 2's",
+            Number {
+                plan: 5,
+                column: Column::Pass,
+                n: 32,
+                is: -3876,
+            },
+        ),
+        wrong!(
+            "plan 5: row 31 fails what doesn't pass",
+            fn fails(&self, row: &Row) -> bool {
+                (row.plan, row.n) == (5, 31) || Document01.fails(row)
+            }
+        ),
+        wrong!(
+            "plan 5: row 32 fails only from 3879 on",
+            fn fails_in_last_row(&self, row: &Row) -> bool {
+                row.plan != 5 || self.reaches(Column::Fail, row, 3879)
+            }
+        ),
+        wrong!(
+            "plan 5: the last row is 31",
+            fn last_row(&self, plan: u8) -> usize {
+                match plan {
+                    5 => 31,
+                    _ => Document01.last_row(plan),
+                }
+            }
+        ),
+        wrong!(
+            "plan 5: the last row is plan 4's",
+            fn last_row(&self, plan: u8) -> usize {
+                match plan {
+                    5 => 15,
+                    _ => Document01.last_row(plan),
+                }
+            }
+        ),
+        wrong!(
+            "plan 5: a deviation as in plan 1",
+            fn deviation_fits(&self, plan: u8, deviation: u32) -> bool {
+                Document01.deviation_fits(if plan == 5 { 1 } else { plan }, deviation)
+            }
+        ),
+        wrong!(
+            "plan 5: causes as in plan 4",
+            fn has_causes(&self, plan: u8) -> bool {
+                plan == 4 || plan == 5
+            }
+        ),
+        wrong!(
+            "plan 5: a stop refused as in plan 4",
+            fn stop_fits(&self, plan: u8) -> bool {
+                plan != 4 && plan != 5
+            }
+        ),
+    ]
+}
+
+/// Whether P, A and W make a pass.
+type Rule = fn(i128, i64, i128) -> bool;
+
+/// One row passes by another rule.
+struct RowPasses {
+    plan: u8,
+    n: usize,
+    rule: Rule,
+}
+
+impl Document for RowPasses {
+    fn reaches(&self, column: Column, row: &Row, number: i64) -> bool {
+        if (row.plan, row.n, column) == (self.plan, self.n, Column::Pass) {
+            (self.rule)(100_000 * i128::from(row.d), number, self.w(row))
+        } else {
+            Document01.reaches(column, row, number)
+        }
+    }
+}
+
+/// "For A >= 0, P <= 0 or P squared <= A squared x W", in every row with such an A.
+fn pass_numbers_above_zero() -> Vec<Wrong> {
+    let rules: [(&str, Rule); 3] = [
+        ("only below A", |p, a, w| {
+            let on_line = p > 0 && p * p == i128::from(a) * i128::from(a) * w;
+            Document01.at_most_root(p, a, w) && !on_line
+        }),
+        ("only by squares", |p, a, w| {
+            p * p <= i128::from(a) * i128::from(a) * w
+        }),
+        ("only where D is not above zero", |p, _, _| p <= 0),
+    ];
+    let mut all = Vec::new();
+    for (plan, n) in [(4, 15), (5, 31), (5, 32)] {
+        for (when, rule) in rules {
+            let description = format!("plan {plan}: row {n} passes {when}");
+            all.push(Wrong::new(description, RowPasses { plan, n, rule }));
+        }
+    }
+    all
+}
+
 fn stops() -> Vec<Wrong> {
     vec![
         wrong!(
@@ -398,9 +505,28 @@ fn refusals() -> Vec<Wrong> {
             }
         ),
         wrong!(
+            "refusal 5: plan 5 refused",
+            fn plan_fits(&self, plan: u8, so_far: &Series) -> bool {
+                plan != 5 && Document01.plan_fits(plan, so_far)
+            }
+        ),
+        wrong!(
+            "refusal 5: plan 6 accepted",
+            fn plan_fits(&self, plan: u8, so_far: &Series) -> bool {
+                plan == 6 || Document01.plan_fits(plan, so_far)
+            }
+        ),
+        wrong!(
             "refusal 5: a plan unlike the first accepted",
             fn plan_fits(&self, plan: u8, _: &Series) -> bool {
-                (1..=4).contains(&plan)
+                (1..=PLANS).contains(&plan)
+            }
+        ),
+        wrong!(
+            "refusal 5: plans 2 and 5 on one sheet accepted",
+            fn plan_fits(&self, plan: u8, so_far: &Series) -> bool {
+                let alike = [plan, so_far.plan].iter().all(|plan| matches!(plan, 2 | 5));
+                alike || Document01.plan_fits(plan, so_far)
             }
         ),
         wrong!(

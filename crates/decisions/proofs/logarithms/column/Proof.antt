@@ -18,23 +18,23 @@ use Rattle.decisions.proofs.logarithms.column.Statement.{statement}
 use Rattle.decisions.proofs.logarithms.column.Tie as tie
 
 abbrev Inv-loop : tie.InvT-loop
-Inv-loop bytes start plan number limit deviation rows known unknown logs₀ level sum₀ squares₀ any₀ n₀ logs sum squares any n =
+Inv-loop bytes start plan number limit deviation rows table logs₀ level sum₀ squares₀ any₀ n₀ logs sum squares any n =
     (n ≤ rows)
     × Logs logs bytes start number rows n
     × (columnIs plan bytes number limit deviation n ≡ isOpen)
     × Sums bytes number limit n level sum squares any
 
 abbrev μ-loop : tie.MeasureT-loop
-μ-loop bytes start plan number limit deviation rows known unknown logs₀ level sum₀ squares₀ any₀ n₀ logs sum squares any n = rows - n
+μ-loop bytes start plan number limit deviation rows table logs₀ level sum₀ squares₀ any₀ n₀ logs sum squares any n = rows - n
 
 -- the function's entry, and the loop's body
 entry : tie.At-loop Inv-loop μ-loop → tie.Start Inv-loop μ-loop
-entry c = c .before .before .before .before .before .before .before
+entry c = c .before .before .before .before .before
 
 body : tie.After-four-with Inv-loop μ-loop → tie.In-loop Inv-loop μ-loop
 body c = c .before .before .before .before
 
-level-is : (c : tie.After-put-four Inv-loop μ-loop) → getD (c .put-four .last .0) 0 0 ≡ g squarings (c .before .before .before .before .before .before .args .limit)
+level-is : (c : tie.After-put-four Inv-loop μ-loop) → getD (c .put-four .last .0) 0 0 ≡ g squarings (c .before .before .before .before .args .limit)
 level-is c = ap (λ (xs : List ℕ). getD xs 0 0) (c .put-four .ensures)
 
 -- the row's number, and the logarithm at hand
@@ -52,7 +52,7 @@ unfolding entry body
 sums c =
     let i = body c in
     let t = i .loop-test .taken in
-    sums-more (entry (i .before) .pre .column) (i .before .loop .n) t (i .before .loop .inv .3)
+    sums-more (entry (i .before) .pre .0 .column) (i .before .loop .n) t (i .before .loop .inv .3)
     (c .before .before .cause-of .ensures .0 ∙ ap cause (c .before .before .before .record-at .ensures)) (c .four-with .ensures .each _ refl t)
 
 fits : (c : tie.After-four-with Inv-loop μ-loop) → let l = body c .before .loop in let rows = entry (body c .before) .args .rows in
@@ -61,7 +61,7 @@ unfolding entry body
 fits c =
     let i = body c in
     let t = i .loop-test .taken in
-    let e = in-engines (entry (i .before) .pre .column) .2 in
+    let e = in-engines (entry (i .before) .pre .0 .column) .2 in
     let f = sums-fit (sums c .sums) (omega arith) in
     (f .0, f .1, omega arith, e)
 
@@ -75,16 +75,16 @@ made c =
     let i = body f in
     let l = i .before .loop in
     let t = i .loop-test .taken in
-    row-more (entry (i .before) .pre .column) (l .n) t (l .inv .3)
+    row-more (entry (i .before) .pre .0 .column) (l .n) t (l .inv .3)
     (f .before .before .cause-of .ensures .0 ∙ ap cause (f .before .before .before .record-at .ensures)) (f .four-with .ensures .each _ refl t)
     (l .inv .2) (c .looks .ensures)
 
 -- what the row decides
-told : (c : tie.After-row Inv-loop μ-loop) {s : Row} → c .row .result ≡ s → let f = c .before .before .before .before .before in let a = entry (body f .before) .args in
+told : (c : tie.After-row Inv-loop μ-loop) {s : Row} → c .row .result ≡ s → let f = c .before .before .before in let a = entry (body f .before) .args in
     Tells (a .plan) (a .bytes .now) (a .number) (a .limit) (a .deviation) (N f) (a .rows) s
 unfolding entry body
 told c e =
-    let k = c .before .before .before in
+    let k = c .before in
     let f = k .before .before in
     let a = entry (body f .before) .args in
     tells (a .plan) (a .bytes .now) (a .number) (a .limit) (a .deviation) (N f) (a .rows) (omega (arith, body f .loop-test .taken))
@@ -97,7 +97,7 @@ returns c =
 
 loop-holds : tie.Need-loop-holds Inv-loop μ-loop
 loop-holds c =
-    let a = c .before .before .before .before .before .before .args in (
+    let a = c .before .before .before .before .args in (
       omega arith,
       place-is _ _ _ _ (a .limit) 0 0 refl (λ k z. absurd (omega arith)) (c .put-four .ensures),
       column-none (a .plan) (a .bytes .now) (a .number) (a .limit) (a .deviation),
@@ -107,14 +107,12 @@ loop-holds c =
 row-requires : tie.Need-row-requires Inv-loop μ-loop
 unfolding entry body
 row-requires c κs =
-    let k = c .before .before in
-    let f = k .before .before in
+    let f = c .before .before in
     let i = body f in
-    let q = i .before .before in
     let p = entry (i .before) .pre in
-    let h : N f ≤ lastRow (planIs (entry (i .before) .args .plan)) = omega (arith, i .loop-test .taken, in-engines (p .column)) in (
-      row-range (sums f .sums) (p .logs) (late _ _ _ (k .before .looks .ensures) (k .if2 .taken)) h (p .column .deviation),
-      (record { holds = q .before .before .before .known-deviation .ensures }, record { holds = q .before .before .unknown-deviation .ensures }),
+    let h : N f ≤ lastRow (planIs (entry (i .before) .args .plan)) = omega (arith, i .loop-test .taken, in-engines (p .0 .column)) in (
+      row-range (sums f .sums) (p .0 .logs) (late _ _ _ (c .before .looks .ensures) (c .if2 .taken)) h (p .0 .column .deviation),
+      p .1,
     )
 
 -- after a row that is open, and after one that is not looked at
@@ -122,7 +120,7 @@ loop-again : tie.Need-loop-again Inv-loop μ-loop
 unfolding entry body
 loop-again c =
     let r = c .before .before in
-    let f = r .before .before .before .before .before in
+    let f = r .before .before .before in
     (omega (arith, body f .loop-test .taken), f .four-with .ensures, told r (c .enum-told .given .1), sums f)
 
 loop-again-2 : tie.Need-loop-again-2 Inv-loop μ-loop
@@ -134,7 +132,7 @@ loop-again-2 c =
 put-four-requires : tie.Need-put-four-requires Inv-loop μ-loop
 unfolding entry body
 put-four-requires c κs =
-    let p = c .before .before .before .before .before .pre .column in
+    let p = c .before .before .before .pre .0 .column in
     record { room = refl; number = p .limit; all = measured-range p; some = omega arith }
 
 pub column-spec : {M : Type 1} → statement M
@@ -142,23 +140,23 @@ unfolding entry body
 column-spec =
     tie.close
     (tie.spec
-    Inv-loop μ-loop returns (λ c κs. search needs) (λ c κs. search needs) put-four-requires (λ c. search needs)
-    (λ c. omega (arith, level-is c, g-fits (c .before .before .before .before .before .before .args .limit)))
+    Inv-loop μ-loop returns put-four-requires (λ c. search needs)
+    (λ c. omega (arith, level-is c, g-fits (c .before .before .before .before .args .limit)))
     loop-holds
-    (λ c. omega (arith, measured-range (entry (c .before) .pre .column) .few, c .loop-test .taken))
-    (λ c κs. let m = measured-range (entry (c .before) .pre .column) .inside in let t = c .loop-test .taken in search needs)
+    (λ c. omega (arith, measured-range (entry (c .before) .pre .0 .column) .few, c .loop-test .taken))
+    (λ c κs. let m = measured-range (entry (c .before) .pre .0 .column) .inside in let t = c .loop-test .taken in search needs)
     (λ c κs. search needs)
-    (λ c κs. let i = c .before .before .before in record { last = i .before .loop .inv .1; all = measured-range (entry (i .before) .pre .column); some = i .loop-test .taken })
+    (λ c κs. let i = c .before .before .before in record { last = i .before .loop .inv .1; all = measured-range (entry (i .before) .pre .0 .column); some = i .loop-test .taken })
     (λ c. omega (arith, fits c))
     (λ c. search needs) (λ c. omega arith)
     (λ c. omega (arith, fits c)) (λ c. omega (arith, fits c)) (λ c. omega (arith, fits c)) (λ c. omega (arith, fits c))
     (λ c κs. search needs) row-requires (λ c. search needs)
-    (λ c. let t = body (c .before .before .before .before .before .before .before) .loop-test .taken in omega arith)
+    (λ c. let t = body (c .before .before .before .before .before) .loop-test .taken in omega arith)
     loop-again (λ c. search needs)
-    (λ c. omega (arith, fits (c .before .before .before .before .before .before .before)))
+    (λ c. omega (arith, fits (c .before .before .before .before .before)))
     (λ c. told (c .before .before) (c .enum-told2 .given .1))
     (λ c. search needs)
-    (λ c. omega (arith, fits (c .before .before .before .before .before .before .before)))
+    (λ c. omega (arith, fits (c .before .before .before .before .before)))
     (λ c. told (c .before .before) (c .enum-told3 .given .1))
     (λ c. let t = body (c .before .before) .loop-test .taken in omega arith)
     loop-again-2

@@ -8,4 +8,4 @@ pub of-spec : {M : Type 1} → statement M
 unfolding planOf
 of-spec =
     tie.close
-    (tie.spec (λ c. search chain depth 9) (λ c. search chain depth 9) (λ c. search chain depth 9) (λ c. search chain depth 9))
+    (tie.spec (λ c. search chain depth 9) (λ c. search chain depth 9) (λ c. search chain depth 9) (λ c. search chain depth 9) (λ c. search chain depth 9) (λ c. search chain depth 9))

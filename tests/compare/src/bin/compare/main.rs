@@ -3,7 +3,7 @@
 mod library;
 mod mutants;
 
-use compare::cases::{reported, visit_cases, visit_empty, Case, Operations, Second, Sizes};
+use compare::cases::{reported, visit_cases, visit_empty, Operations, Second, Sizes};
 use compare::corpus::{Corpus, Origin, Scale, FULL, QUICK};
 use compare::draft::LARGEST;
 use compare::memory::{Boxes, Edge, Pages};
@@ -65,7 +65,7 @@ fn compare_corpus(corpus: &Corpus, tally: &mut Tally) {
         };
         visit_cases(sheet, sizes(origin, sheets), &mut random, &mut |case| {
             let second = case.run(&SECOND, &mut pages, edge);
-            seen.note(matches!(case, Case::Report { .. }), &second);
+            seen.note(case, &second);
             let library = case.run(&LIBRARY, &mut pages, edge);
             calls += 1;
             let what = || format!("{case}, {origin}");
@@ -115,7 +115,7 @@ fn print_ways(counts: &[u64], tally: &mut Tally) {
     println!("  {} ways to the refusals 1 to 12, each taken", WAYS.len());
 }
 
-/// The paper's sheets get the paper's reports, from both; and both part every pair.
+/// The chosen sheets get the reports asked for, from both; and both part every pair.
 fn compare_chosen(corpus: &Corpus, tally: &mut Tally) {
     corpus.paper.compare_with_printed(tally);
     for (origin, chosen) in corpus.chosen() {

@@ -1,0 +1,54 @@
+-- Document 02, F-6: the reason for plan 5. Series on each side of its pass line in rows 31 and 32, and the same sheets under plan 2: those
+-- that pass are answered otherwise there. `series-hold` is the computed check.
+use Prim.Native.Nat.{ℕ}
+use mathlib.Core.Path.{_≡_, refl}
+use mathlib.Core.List.{List, [], _∷_, _++_, map}
+use Rattle.rules.specs.Tools.{total}
+use Rattle.rules.specs.Logarithm.{squarings, binaryDigits, bits, logarithm, g}
+use Rattle.rules.specs.Sheet.{pollutants, cut, records, kind, number, plan, limit, deviation, cause, measurement, ofKind, planNumber, declared, declares, gross}
+use Rattle.rules.specs.Sheet.{pollutant as pollutantOf}
+use Rattle.rules.specs.Plans.{planOf, decide, atMostRoot, atLeastRoot, unknownNumbers, correctedNumbers, rootPasses, rootFails, rowPasses, rowFails, row}
+use Rattle.rules.specs.Series.{beforeRow, look, settle, unlooked, after, pairs, judgeRecords, Answer}
+use Rattle.rules.specs.Refusals.{misplaced, badNumber, badPlan, badLimit, badDeviation, badMeasurement, badCause, tooMany, nonzero, unused, faults, faultOf, checkFrom, badLength, check}
+use Rattle.rules.specs.Operations.{judge}
+use Rattle.cases.specs.Bytes.{pollutant, measured, times}
+use Rattle.cases.specs.Table.{one}
+
+-- engines of limit 2000, with what judging them answers under plan 5 and under plan 2
+record Series : Type 0 where
+  engines : List ℕ
+  corrected : Answer
+  printed : Answer
+
+abbrev pairsOf : ℕ → List ℕ
+pairsOf n = times n (measured 4000 ++ measured 1000)
+
+-- row 31: an engine, then fifteen times 4000, 1000
+abbrev thirtyOne : ℕ → List ℕ
+thirtyOne x = measured x ++ pairsOf 15
+
+-- row 32: fifteen times 4000, 1000, then 4000 and an engine
+abbrev thirtyTwo : ℕ → List ℕ
+thirtyTwo x = pairsOf 15 ++ measured 4000 ++ measured x
+
+series : List Series
+series =
+    -- "2000, then fifteen times 4000, 1000: plan 2 another at 31, plan 5 passes at 31"
+    record { engines = thirtyOne 2000; corrected = one 1 31 1 1 31; printed = one 0 31 0 0 0 }
+    -- the largest that passes at 31, and the next
+    ∷ record { engines = thirtyOne 2199; corrected = one 1 31 1 1 31; printed = one 0 31 0 0 0 }
+    ∷ record { engines = thirtyOne 2200; corrected = one 0 31 0 0 0; printed = one 0 31 0 0 0 }
+    -- "Sixteen times 4000, 1000: plan 2 fails at 32, plan 5 passes at 32"
+    ∷ record { engines = thirtyTwo 1000; corrected = one 1 32 1 1 32; printed = one 2 32 1 2 32 }
+    -- the largest that passes at 32, and the next
+    ∷ record { engines = thirtyTwo 2330; corrected = one 1 32 1 1 32; printed = one 2 32 1 2 32 }
+    ∷ record { engines = thirtyTwo 2331; corrected = one 2 32 1 2 32; printed = one 2 32 1 2 32 }
+    ∷ []
+
+-- the engines, judged under the plan of a number
+judgedBy : ℕ → Series → Answer
+judgedBy p s = judge pollutants squarings (pollutant 1 p 2000 0 ++ s .engines)
+
+series-hold : map (λ s. judgedBy 5 s ∷ judgedBy 2 s ∷ []) series ≡ map (λ s. s .corrected ∷ s .printed ∷ []) series
+unfolding judgedBy series total binaryDigits bits logarithm g cut records kind number plan limit deviation cause measurement ofKind planNumber pollutantOf declared declares gross planOf decide atMostRoot atLeastRoot unknownNumbers correctedNumbers rootPasses rootFails rowPasses rowFails row beforeRow look settle unlooked after pairs judgeRecords misplaced badNumber badPlan badLimit badDeviation badMeasurement badCause tooMany nonzero unused faults faultOf checkFrom badLength check judge
+series-hold = refl
