@@ -419,6 +419,27 @@ static void corrected_sheet(void)
           code_of(CONFORMITY_REFUSED_PLAN, 0));
 }
 
+static void three_engines(uint32_t limit, uint32_t reading)
+{
+    int i;
+    new_sheet();
+    CHECK(append_pollutant(4, CONFORMITY_PLAN_UNKNOWN_DEVIATION, limit, 0) == 0);
+    for (i = 0; i < 3; i++) {
+        CHECK(append_engine(reading, 0) == 0);
+    }
+}
+
+/* The logarithm of 9000001 is that of 9000000, and that of 9000002 is higher. */
+static void finer_logarithm(void)
+{
+    three_engines(9000000, 9000001);
+    CHECK_REPORT(CONFORMITY_VERDICT_PASS, CONFORMITY_GROUND_ROW, 3, CONFORMITY_DECISION_PASS);
+    three_engines(9000000, 9000002);
+    CHECK_REPORT(CONFORMITY_VERDICT_FAIL, CONFORMITY_GROUND_ROW, 3, CONFORMITY_DECISION_FAIL);
+    three_engines(9000000, 9000010);
+    CHECK_REPORT(CONFORMITY_VERDICT_FAIL, CONFORMITY_GROUND_ROW, 3, CONFORMITY_DECISION_FAIL);
+}
+
 /* ---- Declared values ---- */
 
 struct declared_case {
@@ -485,6 +506,7 @@ int main(void)
     verdicts();
     referral();
     corrected_sheet();
+    finer_logarithm();
     declared_values();
     printf("%u passed, %u failed\n", passed, failed);
     return failed == 0 ? 0 : 1;

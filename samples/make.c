@@ -93,39 +93,39 @@ static void refused(const char *name, unsigned number, unsigned record, const ch
     sample(name, lines);
 }
 
+/* The lines of a sheet of pollutant 1 that is decided, or not, at row 3. */
+#define PASS_AT_3 "pass 3 1\n1 pass 3\n"
+#define FAIL_AT_3 "fail 3 1\n1 fail 3\n"
+#define ANOTHER_AT_3 "another 3 0\n1 open 0\n"
+
+/* Three engines that measure the same of pollutant 1, and what is printed of them. */
+static void three(const char *name, uint32_t plan, uint32_t limit, uint32_t deviation, uint32_t measurement, const char *lines) {
+    pollutant(1, plan, limit, deviation);
+    measured(3, measurement);
+    sample(name, lines);
+}
+
 /* "Series that stand on a line" */
 static void on_a_line(void) {
     pollutant(4, 3, 150, 0);
     for (int i = 0; i < 4; i++) engine(0, 0, 0, 0, 140);
     sample("example", "pass 4 1\n4 pass 4\n");
 
-    pollutant(1, 1, 4000, 625020);
-    measured(3, 2000);
-    sample("known-625020", "pass 3 1\n1 pass 3\n");
-    pollutant(1, 1, 4000, 625021);
-    measured(3, 2000);
-    sample("known-625021", "another 3 0\n1 open 0\n");
-    pollutant(1, 1, 4000, 440186);
-    measured(3, 8000);
-    sample("known-440186", "fail 3 1\n1 fail 3\n");
-    pollutant(1, 1, 4000, 440187);
-    measured(3, 8000);
-    sample("known-440187", "another 3 0\n1 open 0\n");
+    three("known-625020", 1, 4000, 625020, 2000, PASS_AT_3);
+    three("known-625021", 1, 4000, 625021, 2000, ANOTHER_AT_3);
+    three("known-440186", 1, 4000, 440186, 8000, FAIL_AT_3);
+    three("known-440187", 1, 4000, 440187, 8000, ANOTHER_AT_3);
 
-    pollutant(1, 2, 4000, 0);
-    measured(3, 4000);
-    sample("unknown-4000-4000-4000", "pass 3 1\n1 pass 3\n");
+    three("unknown-4000-4000-4000", 2, 4000, 0, 4000, PASS_AT_3);
     pollutant(1, 2, 4000, 0);
     measured(2, 4000);
     measured(1, 2000);
-    sample("unknown-4000-4000-2000", "another 3 0\n1 open 0\n");
-    pollutant(1, 2, 4000, 0);
-    measured(3, 8000);
-    sample("unknown-8000-8000-8000", "fail 3 1\n1 fail 3\n");
+    sample("unknown-4000-4000-2000", ANOTHER_AT_3);
+    three("unknown-8000-8000-8000", 2, 4000, 0, 8000, FAIL_AT_3);
     pollutant(1, 2, 4000, 0);
     measured(2, 8000);
     measured(1, 16000);
-    sample("unknown-8000-8000-16000", "another 3 0\n1 open 0\n");
+    sample("unknown-8000-8000-16000", ANOTHER_AT_3);
 
     /* 1500 is no gross emitter, so its cause is 0; 1501 is, so its cause is not. */
     pollutant(1, 4, 1000, 0);
@@ -146,7 +146,7 @@ static void on_a_line(void) {
     engine(7, 1501, 0, 0, 0);
     engine(8, 1501, 0, 0, 0);
     measured(1, 900);
-    sample("unlike-causes", "another 3 0\n1 open 0\n");
+    sample("unlike-causes", ANOTHER_AT_3);
 
     pollutant(1, 1, 4000, 625020);
     sample("no-engine", "another 0 0\n1 open 0\n");
@@ -178,6 +178,13 @@ static void corrected(void) {
         snprintf(name, sizeof name, "plan-%u-row-32", answers[i].plan);
         sample(name, answers[i].last);
     }
+}
+
+/* Document 02, F-9: readings above a limit of 9,000,000 whose logarithms were the limit's. Only that of 9,000,001 still is. */
+static void finer(void) {
+    three("finer-9000001", 2, 9000000, 0, 9000001, PASS_AT_3);
+    three("finer-9000002", 2, 9000000, 0, 9000002, FAIL_AT_3);
+    three("finer-9000010", 2, 9000000, 0, 9000010, FAIL_AT_3);
 }
 
 /* The grounds, rows and lines that the lists above leave out. */
@@ -228,7 +235,7 @@ static void others(void) {
     pollutant(1, 2, 4000, 0);
     measured(3, 4000);
     measured(2, 9999999);
-    sample("after-the-decision", "pass 3 1\n1 pass 3\n");
+    sample("after-the-decision", PASS_AT_3);
 
     /* Two series of seven engines that one C library's logarithm passes at 7 and another's leaves open, each in its own way. */
     static const uint32_t first[] = {6054011, 7125279, 7809388, 7501976, 5847897, 5300524, 6870023};
@@ -304,6 +311,7 @@ int main(int count, char **words) {
     folder = words[1];
     on_a_line();
     corrected();
+    finer();
     others();
     refusals();
     return 0;

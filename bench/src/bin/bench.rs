@@ -97,12 +97,14 @@ fn reporting(report: Report, sheets: &[Vec<u8>]) -> impl FnMut() + '_ {
     }
 }
 
-/// The goals by doubles: plan 3 takes no logarithm, which is most of the work in the other plans.
+/// The goals by doubles. At sixteen squarings they were 1.6 and 0.95; F-9 lets the squarings'
+/// share, 0.69 of the time of plan 1's full sheets and 0.56 of its typical ones, grow to 20/16 of
+/// it. Plan 3 takes no logarithm.
 fn full_by_doubles(plan: u8) -> f64 {
     if plan == 3 {
         0.6
     } else {
-        1.6
+        1.87
     }
 }
 
@@ -110,7 +112,7 @@ fn typical_by_doubles(plan: u8) -> f64 {
     if plan == 3 {
         0.55
     } else {
-        0.95
+        1.08
     }
 }
 

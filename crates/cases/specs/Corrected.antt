@@ -3,15 +3,12 @@
 use Prim.Native.Nat.{ℕ}
 use mathlib.Core.Path.{_≡_, refl}
 use mathlib.Core.List.{List, [], _∷_, _++_, map}
-use Rattle.rules.specs.Tools.{total}
-use Rattle.rules.specs.Logarithm.{squarings, binaryDigits, bits, logarithm, g}
-use Rattle.rules.specs.Sheet.{pollutants, cut, records, kind, number, plan, limit, deviation, cause, measurement, ofKind, planNumber, declared, declares, gross}
-use Rattle.rules.specs.Sheet.{pollutant as pollutantOf}
-use Rattle.rules.specs.Plans.{planOf, decide, atMostRoot, atLeastRoot, unknownNumbers, correctedNumbers, rootPasses, rootFails, rowPasses, rowFails, row}
-use Rattle.rules.specs.Series.{beforeRow, look, settle, unlooked, after, pairs, judgeRecords, Answer}
-use Rattle.rules.specs.Refusals.{misplaced, badNumber, badPlan, badLimit, badDeviation, badMeasurement, badCause, tooMany, nonzero, unused, faults, faultOf, checkFrom, badLength, check}
+use Rattle.rules.specs.Logarithm.{squarings}
+use Rattle.rules.specs.Sheet.{pollutants}
+use Rattle.rules.specs.Series.{Answer}
 use Rattle.rules.specs.Operations.{judge}
 use Rattle.cases.specs.Bytes.{pollutant, measured, times}
+use Rattle.cases.specs.Judged.{judged}
 use Rattle.cases.specs.Table.{one}
 
 -- engines of limit 2000, with what judging them answers under plan 5 and under plan 2
@@ -50,5 +47,5 @@ judgedBy : ℕ → Series → Answer
 judgedBy p s = judge pollutants squarings (pollutant 1 p 2000 0 ++ s .engines)
 
 series-hold : map (λ s. judgedBy 5 s ∷ judgedBy 2 s ∷ []) series ≡ map (λ s. s .corrected ∷ s .printed ∷ []) series
-unfolding judgedBy series total binaryDigits bits logarithm g cut records kind number plan limit deviation cause measurement ofKind planNumber pollutantOf declared declares gross planOf decide atMostRoot atLeastRoot unknownNumbers correctedNumbers rootPasses rootFails rowPasses rowFails row beforeRow look settle unlooked after pairs judgeRecords misplaced badNumber badPlan badLimit badDeviation badMeasurement badCause tooMany nonzero unused faults faultOf checkFrom badLength check judge
+unfolding judgedBy series judged
 series-hold = refl

@@ -3,14 +3,10 @@ use Prim.Native.Nat.{ℕ}
 use mathlib.Core.Path.{_≡_, refl}
 use mathlib.Core.List.{List, [], _∷_, _++_, map}
 use Rattle.rules.specs.Logarithm.{squarings}
-use Rattle.rules.specs.Sheet.{pollutants, cut, records, kind, number, plan, limit, deviation, cause, measurement, ofKind, planNumber, declared, declares}
-use Rattle.rules.specs.Sheet.{pollutant as pollutantOf}
-use Rattle.rules.specs.Plans.{planOf, decide, attributesPasses, attributesFails, rowPasses, rowFails, row}
-use Rattle.rules.specs.Series.{beforeRow, look, settle, unlooked, after, pairs, judgeRecords}
-use Rattle.rules.specs.Refusals.{misplaced, badNumber, badPlan, badLimit, badDeviation, badMeasurement, badCause, tooMany, nonzero, unused, faults, faultOf, checkFrom, badLength, check}
-use Rattle.rules.specs.Operations.{judge}
+use Rattle.rules.specs.Sheet.{pollutants}
 use Rattle.rules.specs.Printed as lines
 use Rattle.cases.specs.Bytes.{pollutant, engine, times}
+use Rattle.cases.specs.Judged.{judged}
 
 sheets : List (List ℕ)
 sheets =
@@ -25,5 +21,5 @@ printed-lines : map (lines.printed pollutants squarings) sheets
     ≡ (112 ∷ 97 ∷ 115 ∷ 115 ∷ 32 ∷ 52 ∷ 32 ∷ 49 ∷ 10 ∷ 52 ∷ 32 ∷ 112 ∷ 97 ∷ 115 ∷ 115 ∷ 32 ∷ 52 ∷ 10 ∷ [])
     ∷ (114 ∷ 101 ∷ 102 ∷ 117 ∷ 115 ∷ 101 ∷ 100 ∷ 32 ∷ 49 ∷ 48 ∷ 32 ∷ 50 ∷ 48 ∷ 10 ∷ [])
     ∷ []
-unfolding sheets cut records kind number plan limit deviation cause measurement ofKind planNumber pollutantOf declared declares planOf decide attributesPasses attributesFails rowPasses rowFails row beforeRow look settle unlooked after pairs judgeRecords misplaced badNumber badPlan badLimit badDeviation badMeasurement badCause tooMany nonzero unused faults faultOf checkFrom badLength check judge lines.lastDigits lines.decimal lines.printed
+unfolding sheets judged lines.lastDigits lines.decimal lines.printed
 printed-lines = refl

@@ -4,19 +4,16 @@ use Prim.Native.Nat.{ℕ}
 use mathlib.Core.Path.{_≡_, refl}
 use mathlib.Core.List.{List, [], _∷_, _++_, map}
 use lib.ListN.{replicate}
-use Rattle.rules.specs.Tools.{total}
-use Rattle.rules.specs.Logarithm.{squarings, binaryDigits, bits, logarithm, g}
-use Rattle.rules.specs.Sheet.{pollutants, cut, records, kind, number, plan, limit, deviation, cause, measurement, ofKind, planNumber, declared, declares, gross}
-use Rattle.rules.specs.Sheet.{pollutant as pollutantOf}
-use Rattle.rules.specs.Plans.{planOf, decide, knownPasses, knownFails, atMostRoot, atLeastRoot, unknownNumbers, inServiceNumbers, rootPasses, rootFails, attributesPasses, attributesFails, rowPasses, rowFails, row}
-use Rattle.rules.specs.Series.{inServiceBefore, beforeRow, look, settle, unlooked, after, pairs, judgeRecords, pair, Answer, refusal, judgement}
-use Rattle.rules.specs.Refusals.{misplaced, badNumber, badPlan, badLimit, badDeviation, badMeasurement, badCause, tooMany, nonzero, unused, faults, faultOf, checkFrom, badLength, check}
+use Rattle.rules.specs.Logarithm.{squarings, g}
+use Rattle.rules.specs.Sheet.{pollutants}
+use Rattle.rules.specs.Series.{pair, Answer, refusal, judgement}
 use Rattle.rules.specs.Operations.{judge}
 use Rattle.cases.specs.Bytes.{pollutant, engine, measured, stop, times}
+use Rattle.cases.specs.Judged.{judged}
 
--- * "g(1) = 0, g(2) = 65536, g(3) = 103872, g(1000) = 653117"; g is 0 outside its range
-logarithms : map (g squarings) (1 ∷ 2 ∷ 3 ∷ 1000 ∷ 0 ∷ 10000000 ∷ []) ≡ 0 ∷ 65536 ∷ 103872 ∷ 653117 ∷ 0 ∷ 0 ∷ []
-unfolding g logarithm bits binaryDigits
+-- * 02, F-9: "The starred values of g are worked out anew": of 1, 2, 3 and 1000; then the highest, and 0 outside the range
+logarithms : map (g squarings) (1 ∷ 2 ∷ 3 ∷ 1000 ∷ 9999999 ∷ 0 ∷ 10000000 ∷ []) ≡ 0 ∷ 1048576 ∷ 1661953 ∷ 10449882 ∷ 24383058 ∷ 0 ∷ 0 ∷ []
+unfolding judged
 logarithms = refl
 
 -- a sheet and what judging answers for it
@@ -92,5 +89,5 @@ table =
     ∷ []
 
 table-holds : map (λ c. judge pollutants squarings (c .sheet)) table ≡ map (λ c. c .answer) table
-unfolding table total binaryDigits bits logarithm g cut records kind number plan limit deviation cause measurement ofKind planNumber pollutantOf declared declares gross planOf decide knownPasses knownFails atMostRoot atLeastRoot unknownNumbers inServiceNumbers rootPasses rootFails attributesPasses attributesFails rowPasses rowFails row inServiceBefore beforeRow look settle unlooked after pairs judgeRecords misplaced badNumber badPlan badLimit badDeviation badMeasurement badCause tooMany nonzero unused faults faultOf checkFrom badLength check judge
+unfolding table judged
 table-holds = refl

@@ -14,7 +14,7 @@ use Rattle.logarithm.specs.Four.{Measured}
 use Rattle.plan.specs.declared.Plan.{Plan}
 use Rattle.plan.specs.Plan.{planIs}
 
--- a logarithm is below 24 × 2^q, also with 20 squarings
+-- a logarithm is below 24 × 2^20
 abbrev pub highest : ℕ
 highest = 24 * 2 ^ 20
 

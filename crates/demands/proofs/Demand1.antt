@@ -51,7 +51,7 @@ module _ (w q : ℕ) where
           rw (sym (judge-accepted w q b c) ∙ e) at (judgement-range w q (records w b)) in
           inr (v, n, ground, pairs, e, c, r .0, le-trans (r .1) (engines-fit b c), r .2, r .3)
 
--- ---- as the product has it: four pollutants, sixteen squarings
+-- ---- as the product has it: four pollutants, twenty squarings
 
 pub answered : (b : List ℕ) → Refused pollutants squarings b ⊎ Judged pollutants squarings b
 answered = refused-or-judged pollutants squarings

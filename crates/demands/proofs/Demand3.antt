@@ -32,7 +32,7 @@ module _ (w q : ℕ) where
     pub lower-fails : FailsAt w q S n → FailsBy w q R n
     lower-fails = sheet-fails w q room R S alike lower plan first second n
 
--- ---- as the product has it: four pollutants, sixteen squarings
+-- ---- as the product has it: four pollutants, twenty squarings
 
 pub kept : (R S : List ℕ) → Begins S R → Decided pollutants squarings R → Accepted pollutants squarings S
     → judge pollutants squarings S ≡ judge pollutants squarings R

@@ -63,5 +63,5 @@ bracket q m k p l =
     (record { scaled = h .scaled; falls = omega arith; low = omega arith; high = omega arith }) (omega (arith, pow-mono k)))
 
 -- demand 2 in its own words
-pub bracket-demand : (m : ℕ) → 1 ≤ m → m ≤ 9999999 → (2 ^ g squarings m ≤ m ^ 65536) × (m ^ 65536 < 2 ^ (g squarings m + 2))
+pub bracket-demand : (m : ℕ) → 1 ≤ m → m ≤ 9999999 → (2 ^ g squarings m ≤ m ^ 1048576) × (m ^ 1048576 < 2 ^ (g squarings m + 2))
 bracket-demand m p l = bracket squarings m (omega arith) p l

@@ -1,12 +1,12 @@
-// Document 01, "The logarithm": g of a limit or a measurement, in whole numbers alone, the same on every machine.
+// Document 01, "The logarithm", with the twenty steps of 02, F-9: g of a limit or a measurement, in whole numbers alone, the same on every machine.
 ghost use mathlib.Core.Path.{_≡_};
 ghost use Rattle.rules.specs.Logarithm.{g, squarings};
 ghost use Rattle.logarithm.specs.Four.{Measured, FourRanges, logarithmsOf};
 ghost use Rattle.logarithm.specs.Squaring.{Fits, startOf, nextOf};
 use values::GREATEST;
 
-// "Sixteen times": the number of squarings, `squarings` of the definitions.
-const STEPS: u32 = 16;
+// 02, F-9: "Take twenty steps in place of sixteen": the number of squarings, `squarings` of the definitions.
+const STEPS: u32 = 20;
 
 // A logarithm in the making: the bits found so far, first bit highest, and the number that is squared next, M.
 struct Unfinished {
@@ -41,7 +41,7 @@ fn squared(x: Unfinished) -> Unfinished
     }
 }
 
-// "For m from 1 to 9,999,999 .. Any other m gets 0": a whole number that is less than two below 65536 times the logarithm of m to base 2.
+// "For m from 1 to 9,999,999 .. Any other m gets 0": a whole number that is less than two below 1,048,576 times the logarithm of m to base 2.
 pub fn log2(m: u32) -> u32
     ensures { λ r. ⌜ r ≡ g squarings m ⌝ }
 {

@@ -14,7 +14,7 @@ pub record RowRange (n : ℕ) : Type 0 where
   pub least : 3 ≤ n
   pub most : n ≤ lastRow attributes
 
--- the most of a logarithm, which is below 24 × 2^q: 24 × 2^20 serves also 20 squarings
+-- the most of a logarithm, which is below 24 × 2^20
 abbrev pub logarithmMost : ℕ
 logarithmMost = 25165824
 

@@ -22,13 +22,13 @@ pub enum Row {
     Fail,
 }
 
-// A logarithm's unit, 2 to the number of squarings.
-const LOGARITHM_UNIT: u64 = 65536;
+// 02, F-9: "units become 1/1,048,576": 2 to the number of squarings.
+const LOGARITHM_UNIT: u64 = 1048576;
 
 // The natural logarithm of 2, in billionths.
 const LOG_OF_TWO: u64 = 693147181;
 
-// Plan 1, known deviation: "Pass if T × 693,147,181 > A × t × 65,536; fail if less than the same with B."
+// Plan 1, known deviation: "Pass if T × 693,147,181 > A × t × ..; fail if less than the same with B."; 02, F-9: "1,048,576 in g itself, in plan 1".
 // `added` is the sum of the measurements' logarithms and `level` the limit's logarithm, so T is n × level − added; `table` is the plan's, lent.
 // Each term that document 01 has with a minus stands on the other side, so that all is unsigned.
 // For `decisions` alone, with sums over the engines of an accepted sheet: so it may require.

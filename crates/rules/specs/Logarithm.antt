@@ -1,4 +1,4 @@
--- Document 01, "The logarithm".
+-- Document 01, "The logarithm", and document 02, F-9.
 use Prim.Native.Nat.{ℕ, zero, suc, _+_, _-_, _*_, _/_, _^_}
 use mathlib.Core.Bool.{Bool, not, cond}
 use mathlib.Core.List.{List, map}
@@ -7,9 +7,9 @@ use lib.ListN.{length}
 use lib.IntN.{ℤ, pos, _-ℤ_, _*ℤ_}
 use Rattle.rules.specs.Tools.{within, total, square}
 
--- "Sixteen times": every definition below is over the number q of squarings, and this is where sixteen is put in
+-- 02, F-9: "Take twenty steps in place of sixteen": every definition below is over the number q of squarings, and this is where twenty is put in
 abbrev pub squarings : ℕ
-squarings = 16
+squarings = 20
 
 -- "m from 1 to 9,999,999", the range of limits and measurements too, and of declared values and their tests (document 02, F-4)
 abbrev pub greatest : ℕ
@@ -40,7 +40,7 @@ unfoldable pub bits : (q found M : ℕ) → ℕ
 bits zero found M = found
 bits (suc q) found M = bits q (found * 2 + bit M) (next M)
 
--- "M = m × 2^(31−e)", "e × 65536 + the sixteen bits"
+-- "M = m × 2^(31−e)", "e × .. + the .. bits"; 02, F-9: "units become 1/1,048,576"
 unfoldable pub logarithm : (q m : ℕ) → ℕ
 logarithm q m = exponent m * 2 ^ q + bits q 0 (m * 2 ^ (31 - exponent m))
 

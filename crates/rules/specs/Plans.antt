@@ -1,4 +1,4 @@
--- Document 01, "Plans", and document 02, F-6: last rows, decision numbers, and what a row says of one pollutant.
+-- Document 01, "Plans", and document 02, F-6 and F-9: last rows, decision numbers, and what a row says of one pollutant.
 use Prim.Native.Nat.{ℕ, _+_, _-_, _/_, _^_}
 use mathlib.Core.Bool.{Bool, not, _&&_, _||_, cond}
 use mathlib.Core.List.{List, [], _∷_}
@@ -63,7 +63,7 @@ knownB n = cond (eqb n 32) (negℤ (pos 2112)) (negℤ (pos 4724) -ℤ pos 66 *�
 abbrev pub logOfTwo : ℕ
 logOfTwo = 693147181
 
--- "T = −D. Pass if T × 693,147,181 > A × t × 65,536"
+-- "T = −D. Pass if T × 693,147,181 > A × t × .."; 02, F-9: "1,048,576 in g itself, in plan 1"
 unfoldable pub knownPasses : (q n : ℕ) (D : ℤ) (t : ℕ) → Bool
 knownPasses q n D t = ltZ (knownA n *ℤ pos t *ℤ pos (2 ^ q)) (negℤ D *ℤ pos logOfTwo)
 

@@ -4,13 +4,10 @@
 //!
 //! The d_j have the sum D, and n times the sum of their squares is W + D^2. All but three of them
 //! are chosen at random, and the last three solved for. On the line, with c in lowest terms as
-//! p / q, D = p k and the root of W is q k for some k. At n = 3 there is no such series: W is then
-//! twice a number x^2 + xy + y^2, in which 2 has an even power, so that in W it has an odd one, as
-//! in no square. In plan 4 they are looked for and not asked for: the measurements stay under 1.5
-//! times the limit, and the least k that n allows often needs them further apart.
+//! p / q, D = p k and the root of W is q k for some k.
 //!
-//! Beside the line no cell is out of reach: a series of each pollutant is found on both sides in
-//! every row, and the comparison fails where one is not.
+//! A series of each pollutant is found on both sides in every row, and one on the line wherever
+//! there can be one; the comparison fails where one is not.
 
 use crate::draft::{Pollutant, LARGEST};
 use crate::paper::{Cell, Chosen, Line, Paper, Single};
@@ -21,10 +18,12 @@ use second::{Decision, Document, Document01};
 const ATTEMPTS: usize = 3000;
 /// How many orders of one set are tried for one that stays undecided until the last.
 const ORDERS: usize = 200;
-/// From here on g takes every value, since its steps are below 1.
-const DENSE: u32 = 100_000;
+/// A doubling of m, in units of g.
+const OCTAVE: f64 = 1_048_576.0;
+/// From here on g takes every value: at OCTAVE / ln 2 = 1,512,775 its steps get below 1.
+const DENSE: u32 = 1_520_000;
 /// The g about which the measurements lie, in the middle of where it takes every value.
-const CENTRE: f64 = 1_300_000.0;
+const CENTRE: f64 = 22_950_000.0;
 
 /// Where a series stands by its W.
 #[derive(Clone, Copy, Debug, PartialEq, Eq)]
@@ -50,7 +49,7 @@ pub fn series(
     let widest = widest_spread(cell.plan, c, skewed);
     (0..ATTEMPTS).find_map(|_| {
         let target = match stand {
-            Stand::OnLine if n == 3 => None,
+            Stand::OnLine if !has_series_on_line(cell) => None,
             Stand::OnLine => on_line(c, n, widest, random),
             Stand::Deciding | Stand::Beyond => beside_line(cell, c, stand, widest, random),
         };
@@ -64,6 +63,17 @@ pub fn series(
         let series = single(cell.plan, pollutant, differences)?;
         in_order(paper, cell, stand, series, random)
     })
+}
+
+/// Two kinds of line have no series on them with W above zero.
+/// - At n = 3, W is twice a number x^2 + xy + y^2, in which 2 has an even power, so that in W it has
+///   an odd one, as in no square.
+/// - On the fail line of plan 4 at n = 4, p is 768,627 and q is 100,000. The sum of the squares is
+///   (p^2 + q^2) k^2 / 4, a whole number and even or odd as p k is only if 4 divides k. The mean of
+///   the d_j is then 768,627 or more; at 1.5 times the limit, by the bracket, d_j is 613,379 at
+///   most.
+pub fn has_series_on_line(Cell { plan, row, line }: Cell) -> bool {
+    row > 3 && (plan, row, line) != (4, 4, Line::Fail)
 }
 
 /// What n numbers d_j have to add up to.
@@ -103,7 +113,7 @@ impl Target {
 
     /// A limit that puts the measurements where g takes every value.
     fn limit(&self) -> u32 {
-        let octaves = (CENTRE - self.mean) / 65_536.0;
+        let octaves = (CENTRE - self.mean) / OCTAVE;
         (octaves.exp2() as u32).clamp(1, LARGEST)
     }
 }
@@ -200,9 +210,9 @@ fn offset_skewed(random: &mut Random) -> f64 {
 fn widest_spread(plan: u8, c: i64, skewed: bool) -> f64 {
     let ratio = c as f64 / 100_000.0;
     match plan {
-        4 if skewed => 50_000.0,
-        4 => 38_000.0 / (ratio + 1.2),
-        _ => f64::min(105_000.0, CENTRE / (ratio + 1.7)),
+        4 if skewed => 800_000.0,
+        4 => 608_000.0 / (ratio + 1.2),
+        _ => f64::min(600_000.0, CENTRE / (ratio + 1.7)),
     }
 }
 
@@ -222,14 +232,17 @@ fn measurement(plan: u8, limit: u32, d: i64) -> Option<u32> {
     (Document01.g(low) == wanted && !gross).then_some(low)
 }
 
-/// Three whole numbers with this sum and this sum of squares.
+/// Three whole numbers with this sum and this sum of squares, the least of them first. With x from
+/// the least to the next and y from that to the largest, the reach is twice the root of
+/// x^2 + xy + y^2, and the sum less three times the least is 2x + y: half the reach or more, and
+/// not more than the reach.
 fn three_numbers(sum: i64, squares: i64) -> Option<[i64; 3]> {
     let reach = 2 * (3 * squares - sum * sum);
     if reach < 0 {
         return None;
     }
     let reach = (reach as f64).sqrt() as i64;
-    ((sum - reach) / 3..=(sum + reach) / 3).find_map(|a| {
+    ((sum - reach) / 3..=(sum - reach / 2) / 3).find_map(|a| {
         let rest = sum - a;
         let root = square_root(2 * (squares - a * a) - rest * rest)?;
         ((rest + root) % 2 == 0).then_some([a, (rest + root) / 2, (rest - root) / 2])

@@ -1,9 +1,11 @@
 //! What the programs of the comparison share: the sheets, the calls, the lent memory and the
 //! counting. `compare` holds report and append of the delivered library against the second
-//! implementation; `compare_probe` holds the logarithm, evidence, the printed lines and the reader;
-//! `compare_declared` holds declared values with their tests.
+//! implementation; `compare_probe` holds the logarithm, evidence, the printed lines and the reader,
+//! and the logarithm also against its bracket; `compare_declared` holds declared values with their
+//! tests.
 
 pub mod attributes;
+pub mod bracket;
 pub mod cases;
 pub mod corpus;
 pub mod corrected;
@@ -11,6 +13,7 @@ pub mod declared;
 pub mod draft;
 pub mod exact;
 pub mod memory;
+pub mod natural;
 pub mod pairs;
 pub mod paper;
 pub mod program;

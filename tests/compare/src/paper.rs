@@ -254,7 +254,7 @@ impl Sums {
 
     fn pass(&self, plan: u8, a: i128) -> bool {
         match plan {
-            1 => -self.d * 693_147_181 > a * i128::from(self.pollutant.deviation) * 65_536,
+            1 => -self.d * 693_147_181 > a * i128::from(self.pollutant.deviation) * 1_048_576,
             2 | 4 | 5 => self.p() <= self.root(a),
             3 => self.over <= a,
             _ => unreachable!("the page has no plan {plan}"),
@@ -263,7 +263,7 @@ impl Sums {
 
     fn fail(&self, plan: u8, b: i128) -> bool {
         match plan {
-            1 => -self.d * 693_147_181 < b * i128::from(self.pollutant.deviation) * 65_536,
+            1 => -self.d * 693_147_181 < b * i128::from(self.pollutant.deviation) * 1_048_576,
             2 | 4 | 5 => self.p() >= self.root(b),
             3 => self.over >= b,
             _ => unreachable!("the page has no plan {plan}"),

@@ -4,7 +4,7 @@
 
 use crate::cases::{Answer, Case};
 use crate::corpus::Corpus;
-use crate::exact::Stand;
+use crate::exact::{has_series_on_line, Stand};
 use crate::paper::{Cell, Line};
 use crate::tally::Tally;
 use second::{PLANS, UNKNOWN_DEVIATION};
@@ -77,7 +77,8 @@ pub fn print_pairs(corpus: &Corpus, tally: &mut Tally) {
 }
 
 /// The table of series that are exact to a unit of W: how many have the last W that decides, and
-/// how many one unit beyond; one for each pollutant has to be there.
+/// how many one unit beyond; one for each pollutant has to be there. Then the rows with a series on
+/// the line itself, which are all that have one.
 pub fn print_exact(corpus: &Corpus, tally: &mut Tally) {
     println!("series with the last W that decides/one unit beyond, by plan, row and line");
     print_table(corpus, UNKNOWN_DEVIATION, 4, tally, |cell| {
@@ -90,8 +91,12 @@ pub fn print_exact(corpus: &Corpus, tally: &mut Tally) {
         for (fail, line) in [(false, "pass"), (true, "fail")] {
             let cells = corpus.paper.cells().into_iter();
             let cells = cells.filter(|cell| cell.plan == plan && (cell.line == Line::Fail) == fail);
-            let rows: Vec<usize> = cells.filter(found).map(|cell| cell.row).collect();
+            let (on_line, none): (Vec<Cell>, Vec<Cell>) = cells.partition(found);
+            let rows: Vec<usize> = on_line.iter().map(|cell| cell.row).collect();
             println!("series on the {line} line itself, plan {plan}: rows {rows:?}");
+            for cell in none.into_iter().filter(|cell| has_series_on_line(*cell)) {
+                tally.gap(&format!("a series on the line itself, {cell:?}"));
+            }
         }
     }
 }

@@ -28,92 +28,153 @@ impl Sweep {
 }
 
 /// Two sheets of plan 1 with four pollutants and three engines. Each pollutant stands on a line of
-/// row 3: all decide on the first sheet, and none with the deviations one higher on the second.
+/// row 3: all decide on the first sheet, and none on the second.
 ///
-/// The deviation is computed: the largest t with T x 693,147,181 > A x t x 65,536 passes, or with
-/// |B| and |T| fails. A unit of T is 693,147,181, more than A x 65,536 and |B| x 65,536, which is
-/// a unit of t. So a single g that is off by one, either way, changes one of the two reports.
+/// A unit of T is 693,147,181, and a unit of t is A x 1,048,576 or |B| x 1,048,576, which is 5 or 7
+/// times as much. So the deviation alone can't put every T on a line, and the third engine does it:
+/// on the first sheet |T| is the least whole number that decides, and on the second, where g of the
+/// third measurement is another by one, it is one unit less. The limits, the deviations and the
+/// first two engines are the same on both. So a g of theirs that is off by one changes a report:
+/// the first if |T| gets smaller by it, and the second if |T| gets larger. Should a limit also be
+/// measured, its g counts three times in T, and no more than twice the other way.
 pub struct LogarithmTrial {
     pub limits: [u32; 4],
-    pub measurements: [[u32; 3]; 4],
+    /// What the first two engines measure.
+    pub measurements: [[u32; 2]; 4],
     pub sheets: [Chosen; 2],
 }
 
-/// Every m that can be measured is a limit, and a measurement.
+/// Every m that can be measured is a limit, and a measurement of the first two engines.
 pub fn visit_logarithms(
     paper: &Paper,
     step: usize,
     visit: &mut dyn FnMut(&LogarithmTrial) -> ControlFlow<()>,
 ) -> ControlFlow<()> {
-    let number = |line| {
-        let (plan, row) = (1, 3);
-        paper.number(Cell { plan, row, line }) as i64
-    };
-    let numbers = [number(Line::Pass), number(Line::Fail)];
+    let lines = RowThree::new(paper);
     (1..=LARGEST).step_by(4 * step).try_for_each(|first| {
         // The last four overlap those before them.
         let first = first.min(LARGEST - 3);
         let limits = [first, first + 1, first + 2, first + 3];
-        visit(&logarithm_trial(limits, numbers))
+        visit(&trial(limits.map(|limit| lines.pollutant(limit))))
     })
 }
 
-fn logarithm_trial(limits: [u32; 4], numbers: [i64; 2]) -> LogarithmTrial {
-    let measurements = limits.map(measurements);
-    let lines = [0, 1, 2, 3].map(|p| on_line(limits[p], measurements[p], numbers));
-    let mut draft = Draft::new(1, Vec::with_capacity(4));
-    for (number, (limit, line)) in (1..).zip(limits.into_iter().zip(lines)) {
-        let deviation = line.0;
-        draft.pollutants.push(Pollutant {
-            number,
-            limit,
-            deviation,
-        });
-    }
-    for engine in 0..3 {
-        draft.test(measurements.map(|three| three[engine]), 0);
-    }
-    let decided = draft.bytes();
-    for pollutant in &mut draft.pollutants {
-        pollutant.deviation += 1;
-    }
+fn trial(pollutants: [OnLine; 4]) -> LogarithmTrial {
+    let pollutants = pollutants.each_ref();
     LogarithmTrial {
-        limits,
-        measurements,
+        limits: pollutants.map(|pollutant| pollutant.limit),
+        measurements: pollutants.map(|pollutant| pollutant.first_two),
         sheets: [
             Chosen {
-                sheet: decided,
-                report: decided_at_3(lines.map(|line| line.1)),
+                sheet: sheet(pollutants, |pollutant| pollutant.deciding),
+                report: decided_at_3(pollutants.map(|pollutant| pollutant.decision)),
             },
             Chosen {
-                sheet: draft.bytes(),
+                sheet: sheet(pollutants, |pollutant| pollutant.beyond),
                 report: ANOTHER_AT_3,
             },
         ],
     }
 }
 
-/// About twice the limit while that can be measured, and about half of it above.
-fn measurements(limit: u32) -> [u32; 3] {
-    let middle = if limit < LARGEST.div_ceil(2) {
-        2 * limit
-    } else {
-        limit / 2
-    };
-    [middle - 1, middle, middle + 1]
+fn sheet(pollutants: [&OnLine; 4], third: impl Fn(&OnLine) -> u32) -> Vec<u8> {
+    let declared = (1..).zip(pollutants).map(|(number, on_line)| Pollutant {
+        number,
+        limit: on_line.limit,
+        deviation: on_line.deviation,
+    });
+    let mut draft = Draft::new(1, declared.collect());
+    draft.test(pollutants.map(|pollutant| pollutant.first_two[0]), 0);
+    draft.test(pollutants.map(|pollutant| pollutant.first_two[1]), 0);
+    draft.test(pollutants.map(third), 0);
+    draft.bytes()
 }
 
-/// The largest deviation that decides at 3, and how.
-fn on_line(limit: u32, measurements: [u32; 3], [a, b]: [i64; 2]) -> (u32, Decision) {
-    let g = |m| Document01.g(m);
-    let t = 3 * g(limit) - measurements.map(g).iter().sum::<i64>();
-    let (number, decision) = if t > 0 {
-        (a, Decision::Pass)
+/// A pollutant with what three engines measure.
+struct OnLine {
+    limit: u32,
+    deviation: u32,
+    first_two: [u32; 2],
+    /// The third measurement with which the pollutant decides, and how it does.
+    deciding: u32,
+    decision: Decision,
+    /// The third measurement with which |T| is one unit less.
+    beyond: u32,
+}
+
+/// Plan 1's lines in row 3.
+struct RowThree {
+    pass: i64,
+    fail: i64,
+    /// Third measurements: g rises by one from each to the next, and that of `THIRD` is in the
+    /// middle.
+    third: [u32; 2 * MOST_MOVED as usize + 1],
+}
+
+/// What the third engine measures, or nearly so.
+const THIRD: u32 = 3_000_000;
+
+/// How far |T| is moved from what it is with `THIRD`: less than 7.2, which is a unit of t, and by
+/// one more on the second sheet.
+const MOST_MOVED: i64 = 8;
+
+impl RowThree {
+    fn new(paper: &Paper) -> Self {
+        let number = |line| {
+            let (plan, row) = (1, 3);
+            paper.number(Cell { plan, row, line }) as i64
+        };
+        let third = |place| {
+            let wanted = Document01.g(THIRD) - MOST_MOVED + place as i64;
+            let mut near = THIRD - 100..THIRD + 100;
+            let found = near.find(|&m| Document01.g(m) == wanted);
+            found.expect("g takes every value there")
+        };
+        RowThree {
+            pass: number(Line::Pass),
+            fail: number(Line::Fail),
+            third: std::array::from_fn(third),
+        }
+    }
+
+    /// By the rule "T x 693,147,181 > A x t x" 1,048,576, or with |T| and |B|. The two sides are
+    /// never equal, so that the least |T| that decides is the quotient rounded down, and one more.
+    fn pollutant(&self, limit: u32) -> OnLine {
+        let g = |m| Document01.g(m);
+        let first_two = first_two(limit);
+        let t = 3 * g(limit) - first_two.map(g).iter().sum::<i64>() - g(THIRD);
+        let (number, decision) = if t > 0 {
+            (self.pass, Decision::Pass)
+        } else {
+            (self.fail, Decision::Fail)
+        };
+        let unit = number.abs() * 1_048_576;
+        let deviation = t.abs() * 693_147_181 / unit;
+        let least = deviation * unit / 693_147_181 + 1;
+        OnLine {
+            limit,
+            deviation: deviation as u32,
+            first_two,
+            deciding: self.third_with(t, least),
+            decision,
+            beyond: self.third_with(t, least - 1),
+        }
+    }
+
+    /// The third measurement for another |T| than with `THIRD`: the higher its g, the lower is T.
+    fn third_with(&self, t: i64, wanted: i64) -> u32 {
+        let moved = (t.abs() - wanted) * t.signum();
+        self.third[(MOST_MOVED + moved) as usize]
+    }
+}
+
+/// About twice the limit while that can be measured, and about half of it above.
+fn first_two(limit: u32) -> [u32; 2] {
+    if limit <= LARGEST.div_ceil(2) {
+        [2 * limit - 1, LARGEST.min(2 * limit)]
     } else {
-        (b, Decision::Fail)
-    };
-    let deviation = (t.abs() * 693_147_181 - 1) / (number.abs() * 65_536);
-    (deviation as u32, decision)
+        [limit / 2, limit / 2 + 1]
+    }
 }
 
 const ANOTHER_AT_3: [u8; REPORT] = report_at_3(0, 0);

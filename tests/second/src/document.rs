@@ -30,20 +30,22 @@ pub trait Document {
     // ---- The logarithm
 
     /// "For m from 1 to 9,999,999: e is the number of binary digits of m less one, and
-    /// M = m x 2^(31-e). [..] g(m) = e x 65536 + the sixteen bits [..]. Any other m gets 0."
+    /// M = m x 2^(31-e). [..] g(m) = e x" 1,048,576 "+ the [..] bits [..]. Any other m gets 0."
+    /// F-9: "65,536 becomes 1,048,576 in g itself".
     fn g(&self, m: u32) -> i64 {
         if !(1..=LARGEST).contains(&m) {
             return 0;
         }
         let e = u32::BITS - 1 - m.leading_zeros();
-        i64::from(e * 65536 + self.sixteen_bits(m << (31 - e)))
+        i64::from(e * 1_048_576 + self.twenty_bits(m << (31 - e)))
     }
 
-    /// "Sixteen times: Q = M x M", and a bit each time, "first bit highest".
-    fn sixteen_bits(&self, m: u32) -> u32 {
+    /// "Q = M x M", and a bit each time, "first bit highest"; and of F-9: "Take twenty steps in
+    /// place of sixteen".
+    fn twenty_bits(&self, m: u32) -> u32 {
         let mut m = u64::from(m);
         let mut bits = 0;
-        for _ in 0..16 {
+        for _ in 0..20 {
             let q = m * m;
             let bit = self.next_bit(q);
             m = self.next_m(q, bit);
@@ -64,6 +66,12 @@ pub trait Document {
         } else {
             q >> 31
         }
+    }
+
+    /// F-9: "Verdicts are compared with the finer definition from here on, also for old sheets",
+    /// whatever their plan.
+    fn g_under(&self, _plan: u8, m: u32) -> i64 {
+        self.g(m)
     }
 
     /// "W = n x (sum of d_j squared) - D squared".
@@ -226,14 +234,20 @@ pub trait Document {
         tables::printed(plan, column, n)
     }
 
-    /// Plan 1: "T = -D. Pass if T x 693,147,181 > A x t x 65,536".
+    /// Plan 1: "T = -D. Pass if T x 693,147,181 > A x t x" 1,048,576.
     fn is_above(&self, row: &Row, a: i64) -> bool {
-        i128::from(-row.d) * self.ln_2() > scaled_deviation(row, a)
+        i128::from(-row.d) * self.ln_2() > self.scaled_deviation(row, a)
     }
 
     /// "Fail if less than the same with B."
     fn is_below(&self, row: &Row, b: i64) -> bool {
-        i128::from(-row.d) * self.ln_2() < scaled_deviation(row, b)
+        i128::from(-row.d) * self.ln_2() < self.scaled_deviation(row, b)
+    }
+
+    /// "A x t x" 1,048,576, or "the same with B"; F-9: "65,536 becomes 1,048,576 in g itself, in
+    /// plan 1 and in the bracket".
+    fn scaled_deviation(&self, row: &Row, number: i64) -> i128 {
+        i128::from(number) * i128::from(row.deviation) * 1_048_576
     }
 
     /// Plan 1's number for the natural logarithm of 2.
@@ -658,11 +672,6 @@ pub trait Document {
             Err(_) => [None, None],
         }
     }
-}
-
-/// "A x t x 65,536", or "the same with B".
-fn scaled_deviation(row: &Row, number: i64) -> i128 {
-    i128::from(number) * i128::from(row.deviation) * 65_536
 }
 
 fn all_zero(bytes: &[u8]) -> bool {

@@ -187,7 +187,7 @@ fn open_standings<D: Document + ?Sized>(document: &D, series: &Series) -> Standi
             limit,
             limit_logarithm: match series.plan {
                 3 => 0,
-                _ => document.g(limit),
+                plan => document.g_under(plan, limit),
             },
             deviation: series.deviations[pollutant],
             decision: Decision::Open,
@@ -208,7 +208,7 @@ impl Standing {
         if plan == 3 {
             self.c += i64::from(document.is_over(x, self.limit));
         } else {
-            let d = document.g(x) - self.limit_logarithm;
+            let d = document.g_under(plan, x) - self.limit_logarithm;
             self.d += d;
             self.squares += d * d;
         }

@@ -1,6 +1,7 @@
 //! Document 01's own cases: "Series that stand on a line", and its printed example; and of
-//! document 02 those of F-6, the corrected sheet.
+//! document 02 those of F-6, the corrected sheet, and of F-9, the finer logarithm.
 
+use second::variants::SixteenSteps;
 use second::{append, evidence, judge, lines};
 use second::{Column, Decision, Document, Document01, Ground, Refusal, Verdict};
 
@@ -31,7 +32,11 @@ fn sheet(plan: u8, limit: u32, deviation: u32, vehicles: &[(u16, u32)]) -> Vec<u
 }
 
 fn verdict(sheet: &[u8]) -> (Verdict, u8, Ground) {
-    let judgement = judge(&Document01, sheet).expect("accepted");
+    verdict_by(&Document01, sheet)
+}
+
+fn verdict_by(document: &impl Document, sheet: &[u8]) -> (Verdict, u8, Ground) {
+    let judgement = judge(document, sheet).expect("accepted");
     (judgement.verdict, judgement.engine, judgement.ground)
 }
 
@@ -44,14 +49,16 @@ const ANOTHER_AT_3: (Verdict, u8, Ground) = (Verdict::Another, 3, Ground::None);
 const PASS_AT_3: (Verdict, u8, Ground) = (Verdict::Pass, 3, Ground::Row);
 const FAIL_AT_3: (Verdict, u8, Ground) = (Verdict::Fail, 3, Ground::Row);
 
+/// F-9: "The starred values of g are worked out anew".
 #[test]
 fn logarithms() {
     let values = [
         (0, 0),
         (1, 0),
-        (2, 65536),
-        (3, 103872),
-        (1000, 653117),
+        (2, 1_048_576),
+        (3, 1_661_953),
+        (1000, 10_449_882),
+        (9_999_999, 24_383_058),
         (10_000_000, 0),
     ];
     for (m, g) in values {
@@ -59,6 +66,21 @@ fn logarithms() {
     }
 }
 
+/// F-9: "Two analysts found different readings with equal logarithms." Three engines above the
+/// limit passed as if they stood at it.
+#[test]
+fn different_readings() {
+    let values = [(9_000_000, 24_223_671), (9_000_010, 24_223_673)];
+    for (m, g) in values {
+        assert_eq!(Document01.g(m), g);
+        assert_eq!(SixteenSteps.g(m), 16 * 1_513_979);
+    }
+    let above = sheet(2, 9_000_000, 0, &[(0, 9_000_010); 3]);
+    assert_eq!(verdict(&above), FAIL_AT_3);
+    assert_eq!(verdict_by(&SixteenSteps, &above), PASS_AT_3);
+}
+
+/// F-9: "The other starred cases must come out unchanged", here and below.
 #[test]
 fn plan_1() {
     let three = |x, t| verdict(&sheet(1, 4000, t, &[(0, x); 3]));

@@ -39,9 +39,9 @@ impl Document for WOff {
 }
 
 /// The logarithm of one m some units off.
-struct GOff {
-    m: u32,
-    by: i64,
+pub struct GOff {
+    pub m: u32,
+    pub by: i64,
 }
 
 impl Document for GOff {
@@ -109,14 +109,18 @@ pub fn variances() -> Vec<Family> {
     families
 }
 
-/// The logarithm of one m a unit more, and a unit less: at the ends of the range, at primes, and
-/// at the middle, where the sweep turns from double to half the limit.
+/// The logarithm of one m a unit more, and a unit less: at the ends of the range, at primes, at
+/// 3,000,000, which the sweep measures on many sheets, and at the middle, where it turns from
+/// double to half the limit.
 pub fn logarithms() -> Vec<Family> {
     let family = |by| {
         let title = format!("logarithm of one m off by {by:+}");
         let off = |m| Wrong::new(format!("m = {m}"), GOff { m, by });
-        let m = [1, 2, 3, 65_539, 4_999_999, 5_000_000, 5_000_011, 9_999_999];
-        Family::new(title, m.map(off))
+        let ends = [1, 2, 3, 9_999_999];
+        let inside = [65_539, 3_000_000];
+        let middle = [4_999_999, 5_000_000, 5_000_001, 5_000_011];
+        let all = ends.into_iter().chain(inside).chain(middle);
+        Family::new(title, all.map(off))
     };
     vec![family(1), family(-1)]
 }

@@ -2,23 +2,29 @@
 //! sentence misread, and each has to be noticed by the comparison.
 //!
 //! Three wrong readings are missing because no sheet can tell them from the right ones.
-//! "≥ in plan 1" differs only where T x 693,147,181 = A x t x 65,536; 693,147,181 is a prime
-//! above every A and every t, and no A is zero, so the two sides are never equal. In the
-//! logarithm Q is a square, which 2^63 is not, so "Q > 2^63" is the same as "Q >= 2^63". And in
-//! row 32 of plan 5 A and B are the same number, so that P >= B root W wherever P is above A root
-//! W: "fail by B" fails there just what doesn't pass.
+//! "≥ in plan 1" differs only where T x 693,147,181 = A x t x 1,048,576, or the same with B;
+//! 693,147,181 is a prime above |A|, |B| and t, none of which is zero, and 1,048,576 is a power of
+//! 2, so the two sides are never equal. In the logarithm Q is a square, which 2^63 is not, so
+//! "Q > 2^63" is the same as "Q >= 2^63". And in row 32 of plan 5 A and B are the same number, so
+//! that P >= B root W wherever P is above A root W: "fail by B" fails there just what doesn't pass.
+//!
+//! Document 01 before F-9, with sixteen steps and 65,536 in plan 1 too, answers every sheet as
+//! sixteen steps in the new unit do: D, the root of W and plan 1's lines are all 16 times smaller.
 
+mod before_f_9;
 mod declared;
 mod families;
 mod probe;
 mod report;
 
 use crate::document::Document;
+use before_f_9::OldUnits;
 use families::Number;
 
+pub use before_f_9::{sixteen_steps_under_one_plan, SixteenSteps};
 pub use declared::declared;
 pub use families::{causes, decision_numbers, logarithms, variances};
-pub use probe::{logarithm_evidence_and_lines, reader};
+pub use probe::{brackets, brackets_of_few, logarithm_evidence_and_lines, reader};
 pub use report::report_and_append;
 
 /// One wrong reading.

@@ -1,7 +1,8 @@
-//! Wrong readings that are seen through the probe library: in the logarithm itself, in what
-//! evidence hands back, in the printed lines, and in a sheet under reading.
+//! Wrong readings that are seen through the probe library: in the logarithm itself and its
+//! bracket, in what evidence hands back, in the printed lines, and in a sheet under reading.
 
-use super::{wrong, Wrong};
+use super::families::GOff;
+use super::{wrong, OldUnits, SixteenSteps, Wrong};
 use crate::check::{number_at, Record, Refusal, RECORD};
 use crate::document::{Document, Document01};
 use crate::judge::Ground;
@@ -18,6 +19,8 @@ pub fn logarithm_evidence_and_lines() -> Vec<Wrong> {
                 }
             }
         ),
+        Wrong::new("logarithm: sixteen steps, as before F-9", SixteenSteps),
+        Wrong::new("logarithm: in units of 1/65,536, as before F-9", OldUnits),
         wrong!(
             "evidence: always the whole sheet",
             fn evidence_length(&self, _: Ground, _: usize, whole: usize) -> usize {
@@ -82,6 +85,59 @@ pub fn logarithm_evidence_and_lines() -> Vec<Wrong> {
                 format!("refused {record} {number}\n")
             }
         ),
+    ]
+}
+
+/// Logarithms that leave the bracket 2^g <= m^1048576 < 2^(g+2) at so many m that a few whole
+/// powers show it. Of a constant one document 01 says that it is rejected, "though monotone".
+pub fn brackets() -> Vec<Wrong> {
+    vec![
+        wrong!(
+            "bracket: every g one more",
+            fn g(&self, m: u32) -> i64 {
+                Document01.g(m) + 1
+            }
+        ),
+        wrong!(
+            "bracket: every g two less",
+            fn g(&self, m: u32) -> i64 {
+                Document01.g(m) - 2
+            }
+        ),
+        Wrong::new("bracket: sixteen steps", SixteenSteps),
+        Wrong::new("bracket: units of 1/65,536", OldUnits),
+        wrong!(
+            "bracket: a constant logarithm",
+            fn g(&self, _: u32) -> i64 {
+                0
+            }
+        ),
+    ]
+}
+
+/// Logarithms that leave the bracket, or "a larger m never has a smaller g", at few m.
+pub fn brackets_of_few() -> Vec<Wrong> {
+    let off = |m, by| {
+        let description = format!("bracket: the logarithm of {m} off by {by:+}");
+        Wrong::new(description, GOff { m, by })
+    };
+    vec![
+        wrong!(
+            "bracket: every g one less",
+            fn g(&self, m: u32) -> i64 {
+                Document01.g(m) - 1
+            }
+        ),
+        wrong!(
+            "bracket: one squaring too few",
+            fn twenty_bits(&self, m: u32) -> u32 {
+                Document01.twenty_bits(m) & !1
+            }
+        ),
+        off(4_999_999, 1),
+        off(4_999_999, -2),
+        // The bracket holds, but 9,999,998 has then the larger g.
+        off(9_999_999, -1),
     ]
 }
 

@@ -1,6 +1,6 @@
 //! Wrong readings that are seen in what report and append answer.
 
-use super::{wrong, Number, Wrong};
+use super::{wrong, Number, OldUnits, SixteenSteps, Wrong};
 use crate::check::{Record, Refusal, Series, LONGEST_SHEET, RECORD};
 use crate::document::{Document, Document01, PLANS};
 use crate::judge::{Decision, Ending, GrossEmitters, Ground, Judgement, Row, Verdict};
@@ -25,10 +25,15 @@ fn logarithm_and_rows() -> Vec<Wrong> {
     vec![
         wrong!(
             "logarithm: one squaring too few",
-            // The sixteenth bit is then never found.
-            fn sixteen_bits(&self, m: u32) -> u32 {
-                Document01.sixteen_bits(m) & !1
+            // The twentieth bit is then never found.
+            fn twenty_bits(&self, m: u32) -> u32 {
+                Document01.twenty_bits(m) & !1
             }
+        ),
+        Wrong::new("logarithm: sixteen steps, as before F-9", SixteenSteps),
+        Wrong::new(
+            "logarithm: sixteen steps in units of 1/65,536, beside 1,048,576 in plan 1",
+            OldUnits,
         ),
         wrong!(
             "logarithm: a bit is 1 from 2^62 on",
@@ -139,6 +144,24 @@ fn plans_1_and_2() -> Vec<Wrong> {
             "plan 1: 693,147,000 for 693,147,181",
             fn ln_2(&self) -> i128 {
                 693_147_000
+            }
+        ),
+        wrong!(
+            "plan 1: 65,536 as before F-9",
+            fn scaled_deviation(&self, row: &Row, number: i64) -> i128 {
+                Document01.scaled_deviation(row, number) / 16
+            }
+        ),
+        wrong!(
+            "plan 1: pass with 65,536 as before F-9",
+            fn is_above(&self, row: &Row, a: i64) -> bool {
+                i128::from(-row.d) * self.ln_2() > self.scaled_deviation(row, a) / 16
+            }
+        ),
+        wrong!(
+            "plan 1: fail with 65,536 as before F-9",
+            fn is_below(&self, row: &Row, b: i64) -> bool {
+                i128::from(-row.d) * self.ln_2() < self.scaled_deviation(row, b) / 16
             }
         ),
         wrong!(

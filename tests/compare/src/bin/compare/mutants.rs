@@ -26,6 +26,7 @@ pub fn catch() -> ExitCode {
     let in_corpus = |wrong: &dyn Document| is_in_corpus(&corpus, wrong);
     mutants.try_families(variants::decision_numbers(), in_corpus);
     mutants.try_families(variants::variances(), in_corpus);
+    mutants.try_families(variants::sixteen_steps_under_one_plan(), in_corpus);
     let in_sweep = |sweep| {
         let corpus = &corpus;
         move |wrong: &dyn Document| is_in_sweep(corpus, sweep, wrong)

@@ -1,9 +1,11 @@
 //! Compares the logarithm, evidence, the printed lines and the reader with the second
-//! implementation, by way of the probe library.
+//! implementation, by way of the probe library, and the logarithm with its bracket.
 
 mod operations;
 
+use compare::bracket::{self, Bracketed, Power};
 use compare::corpus::{Corpus, Scale, FULL, QUICK};
+use compare::draft::LARGEST;
 use compare::memory::{Boxes, Edge, Lender, Pages};
 use compare::program::{self, Mutants};
 use compare::tally::Tally;
@@ -25,7 +27,8 @@ fn main() -> ExitCode {
     )
 }
 
-/// The logarithm of every `step`th m, then the sheets.
+/// The logarithm of every `step`th m and its bracket, then the sheets. Whole powers are only taken
+/// where every m is gone through.
 fn compare(scale: Scale, step: usize) -> ExitCode {
     let mut tally = Tally::default();
     for m in logarithm_arguments(step) {
@@ -33,6 +36,10 @@ fn compare(scale: Scale, step: usize) -> ExitCode {
         tally.compare(&[], || format!("the logarithm of {m}"), library, second);
     }
     println!("{} logarithms", tally.cases());
+    let closest = compare_brackets(step, &mut tally);
+    if step == 1 {
+        compare_whole_powers(closest, &mut tally);
+    }
     compare_empty(&mut tally);
     compare_corpus(&Corpus::new(scale), &mut tally);
     tally.finish()
@@ -49,6 +56,40 @@ fn logarithm_arguments(step: usize) -> impl Iterator<Item = u32> {
         .chain([u32::MAX])
         .chain(beyond)
 }
+
+/// The library's g of every `step`th m by the bracket. Returns the m, no powers of two, with the
+/// exact logarithms closest above and below a whole unit.
+fn compare_brackets(step: usize, tally: &mut Tally) -> [u32; 2] {
+    let mut closest = [(u64::MAX, 0), (0, 0)];
+    let mut brackets = 0;
+    for Bracketed { m, power, fault } in bracket::walk(|m| LIBRARY.logarithm(m), step) {
+        tally.compare(&[], || format!("the bracket of g({m})"), fault, None);
+        brackets += 1;
+        if !m.is_power_of_two() {
+            let here = (power.first_digits(), m);
+            closest = [closest[0].min(here), closest[1].max(here)];
+        }
+    }
+    let closest = closest.map(|(_, m)| m);
+    println!("{brackets} brackets, the closest to a whole unit are those of {closest:?}");
+    closest
+}
+
+/// Of some m the whole power: its binary digits are those that the bounds tell, and the library's g
+/// fits them.
+fn compare_whole_powers(closest: [u32; 2], tally: &mut Tally) {
+    for m in SMALL.into_iter().chain([LARGEST]).chain(closest) {
+        let (digits, checked) = bracket::whole_power(m);
+        let mut expect = |holds, what| tally.expect(holds, &[], &format!("{m}^1048576: {what}"));
+        expect(checked, "what it leaves by a prime");
+        expect(Power::of(m).digits() == Some(digits), "bounds on it");
+        expect(bracket::fits(LIBRARY.logarithm(m), digits), "the bracket");
+        println!("  {m}^1048576: {digits} binary digits");
+    }
+}
+
+/// Some m with short powers.
+const SMALL: [u32; 6] = [1, 2, 3, 5, 7, 1000];
 
 /// NULL is lent with length 0, and has to be taken like an empty slice.
 fn compare_empty(tally: &mut Tally) {
@@ -150,6 +191,18 @@ fn catch_mutants() -> ExitCode {
         let caught_by = in_logarithms(&second).or_else(|| in_answers(&corpus, &second));
         mutants.note(&wrong, caught_by);
     }
+    let whole_powers = SMALL.map(|m| (m, bracket::whole_power(m).0));
+    for wrong in variants::brackets() {
+        let second = Second(wrong.reading.as_ref());
+        let caught_by = in_whole_powers(&whole_powers, &second).zip(in_brackets(&second));
+        mutants.note(
+            &wrong,
+            caught_by.map(|(one, other)| format!("{one} and {other}")),
+        );
+    }
+    for wrong in variants::brackets_of_few() {
+        mutants.note(&wrong, in_brackets(&Second(wrong.reading.as_ref())));
+    }
     for wrong in variants::reader() {
         let caught_by = in_steps(&corpus, &Second(wrong.reading.as_ref()));
         mutants.note(&wrong, caught_by);
@@ -161,6 +214,19 @@ fn catch_mutants() -> ExitCode {
 fn in_logarithms(wrong: &dyn Operations) -> Option<String> {
     let m = logarithm_arguments(1).find(|&m| LIBRARY.logarithm(m) != wrong.logarithm(m))?;
     Some(format!("g({m})"))
+}
+
+/// The first m at which the bracket or the order shows a wrong variant.
+fn in_brackets(wrong: &dyn Operations) -> Option<String> {
+    let mut walk = bracket::walk(|m| wrong.logarithm(m), 1);
+    walk.find_map(|Bracketed { m, fault, .. }| Some(format!("the bracket of g({m}), {:?}", fault?)))
+}
+
+/// The first m of which the whole power, of so many binary digits, shows a wrong variant.
+fn in_whole_powers(powers: &[(u32, u64)], wrong: &dyn Operations) -> Option<String> {
+    let mut powers = powers.iter();
+    let (m, _) = powers.find(|(m, digits)| !bracket::fits(wrong.logarithm(*m), *digits))?;
+    Some(format!("the whole power of {m}"))
 }
 
 /// The first sheet with different evidence or lines.
