@@ -8,7 +8,13 @@ use std::process::Command;
 fn main() {
     seal::link(
         "conformity",
-        &["conformity_append", "conformity_report"],
+        &[
+            "conformity_append",
+            "conformity_append_sized",
+            "conformity_convert",
+            "conformity_report",
+            "conformity_report_sized",
+        ],
         "bench",
     );
     seal::link("probe", &["probe_logarithm"], "bench_logarithm");

@@ -1,8 +1,10 @@
 /*
  * bench - control program of an engine test bench
  *
- *     bench [-o FILE] < lines-of-the-test-cell
+ *     bench [-s SIZE] [-o FILE] < lines-of-the-test-cell
  *     bench -h
+ *
+ * SIZE is the bytes of a record: 20, which it is without -s, for four pollutants, or 28 for six.
  *
  * LINES
  *
@@ -10,7 +12,8 @@
  *     limit POLLUTANT LIMIT [DEVIATION]   pollutant co, hc, nox, pm or a number; limit in
  *                                         thousandths of its unit; deviation in millionths,
  *                                         plan 1 only
- *     engine [co=X] [hc=X] [nox=X] [pm=X] [cause=C]     measurements in thousandths
+ *     engine [co=X] [hc=X] [nox=X] [pm=X] [5=X] [6=X] [cause=C]     measurements in thousandths;
+ *                                         5 and 6 with -s 28 only
  *     stop                                testing stopped by the manufacturer
  *
  * Numbers are whole: no sign, no decimal point, no comma. Upper case is read as lower case. Empty
@@ -26,11 +29,12 @@
  *
  * FILE
  *
- * With -o the sheet is kept in FILE, which the program `verdict` reads. A record is on the disk
- * before the next line is read. A FILE that holds a sheet is resumed: plan, limits and engines
- * are those of the sheet. The bytes of a record that a crash has torn are told, and cut when the
- * next record is written. A FILE that is no sheet, or that another bench keeps, is left as it is.
- * A pipe or a device is only written to.
+ * With -o the sheet is kept in FILE, which the program `verdict` reads if its records have 20
+ * bytes. A record is on the disk before the next line is read. A FILE that holds a sheet is
+ * resumed: plan, limits and engines are those of the sheet. The bytes of a record that a crash has
+ * torn are told, and cut when the next record is written. A FILE that is no sheet, or one of
+ * records of the other size, or that another bench keeps, is left as it is. A pipe or a device is
+ * only written to.
  *
  * EXIT STATUS
  *
@@ -59,7 +63,7 @@
 
 #define BLANKS " \t\r"
 #define BYTE_ORDER_MARK "\xef\xbb\xbf"
-#define MOST_WORDS 7 /* one more than any line has, so that a longer one is seen to be longer */
+#define MOST_WORDS 9 /* one more than any line has, so that a longer one is seen to be longer */
 
 /* Also the exit status; the last: decided, but lines were passed over. */
 enum outcome { HELPED = 0, DECIDED = 0, UNDECIDED = 1, TROUBLE = 2, DECIDED_ON_LESS = 3 };
@@ -69,7 +73,8 @@ enum { KIND = 0, POLLUTANT = 1, PLAN = 2 };
 #define NO_RECORD 0 /* no kind of record has this number */
 
 struct test {
-    uint8_t sheet[CONFORMITY_SHEET_MAX];
+    size_t size; /* of a record */
+    uint8_t sheet[CONFORMITY_SHEET_MAX_28];
     size_t used;
     uint32_t plan; /* 0, which the library refuses, until a line or the sheet has named it */
     unsigned long line_number;
@@ -87,19 +92,22 @@ struct input {
     int error; /* errno of the read that failed, or 0 */
 };
 
+static const char USAGE[] = "bench [-s SIZE] [-o FILE] < lines, or bench -h";
+
 static const char HELP[] =
-    "usage: bench [-o FILE] < lines\n"
     "\n"
     "lines:\n"
     "  plan N                              1 to 5, before the limits\n"
     "  limit POLLUTANT LIMIT [DEVIATION]   pollutant co, hc, nox, pm or a number; limit in\n"
     "                                      thousandths of its unit; deviation in millionths,\n"
     "                                      plan 1 only\n"
-    "  engine [co=X] [hc=X] [nox=X] [pm=X] [cause=C]     measurements in thousandths\n"
+    "  engine [co=X] [hc=X] [nox=X] [pm=X] [5=X] [6=X] [cause=C]     measurements in thousandths;\n"
+    "                                      5 and 6 with -s 28 only\n"
     "  stop                                testing stopped by the manufacturer\n"
     "Numbers are whole: no sign, no decimal point, no comma. Empty lines and lines that begin\n"
     "with # say nothing.\n"
     "\n"
+    "-s SIZE is the bytes of a record: 20 for four pollutants, 28 for six; without -s it is 20.\n"
     "-o FILE keeps the sheet in FILE, and resumes the sheet that FILE holds.\n"
     "\n"
     "exit status:\n"
@@ -108,7 +116,7 @@ static const char HELP[] =
     "  2  wrong usage, a FILE that is no sheet or is taken, or an I/O error: see standard error\n"
     "  3  decided, but lines were passed over\n";
 
-static const char *const POLLUTANTS[] = {"none", "co", "hc", "nox", "pm"};
+static const char *const POLLUTANTS[] = {"none", "co", "hc", "nox", "pm", "5", "6"};
 static const char *const VERDICTS[] = {"another", "pass", "fail", "referred"};
 static const char *const GROUNDS[] = {"none", "row", "equal cause", "stopped", "referred"};
 static const char *const DECISIONS[] = {"open", "pass", "fail"};
@@ -131,19 +139,19 @@ static enum outcome trouble(const char *where, const char *why)
 
 /* ---- Understanding a line: each answers what is wrong, or NULL ---- */
 
-/* 0 where no pollutant has this name. */
-static uint32_t pollutant_named(const char *name)
+/* 0 where no pollutant of records of this size has the name. */
+static uint32_t pollutant_named(size_t size, const char *name)
 {
-    uint32_t pollutant = CONFORMITY_POLLUTANTS;
+    uint32_t pollutant = conformity_pollutants(size);
     while (pollutant > 0 && strcmp(name, POLLUTANTS[pollutant]) != 0) {
         pollutant--;
     }
     return pollutant;
 }
 
-static const char *read_pollutant(const char *word, uint32_t *pollutant)
+static const char *read_pollutant(size_t size, const char *word, uint32_t *pollutant)
 {
-    *pollutant = pollutant_named(word);
+    *pollutant = pollutant_named(size, word);
     if (*pollutant != 0) {
         return NULL;
     }
@@ -175,12 +183,13 @@ static const char *read_plan(struct test *test, char **words, size_t count)
     return NULL;
 }
 
-static const char *read_limit(uint32_t plan, char **words, size_t count, uint8_t *record)
+static const char *read_limit(const struct test *test, char **words, size_t count,
+                              uint8_t *record)
 {
     uint32_t pollutant = 0, limit = 0, deviation = 0;
     const char *fault = wrong_count(count, 3, 4);
     if (fault == NULL) {
-        fault = read_pollutant(words[1], &pollutant);
+        fault = read_pollutant(test->size, words[1], &pollutant);
     }
     if (fault == NULL) {
         fault = read_number(words[2], &limit);
@@ -189,19 +198,20 @@ static const char *read_limit(uint32_t plan, char **words, size_t count, uint8_t
         fault = read_number(words[3], &deviation);
     }
     if (fault == NULL) {
-        conformity_pollutant_record(record, pollutant, plan, limit, deviation);
+        conformity_pollutant_record_sized(test->size, record, pollutant, test->plan, limit,
+                                          deviation);
     }
     return fault;
 }
 
 /* NAME=NUMBER. The cause has place 0 among the values, each pollutant that of its number. */
-static const char *read_value(char *word, uint32_t *values, int *given)
+static const char *read_value(size_t size, char *word, uint32_t *values, int *given)
 {
     size_t name_length = strcspn(word, "=");
     const char *number = word[name_length] == '=' ? word + name_length + 1 : "";
     uint32_t place;
     word[name_length] = '\0';
-    place = pollutant_named(word);
+    place = pollutant_named(size, word);
     if (place == 0 && strcmp(word, "cause") != 0) {
         return "an unknown name";
     }
@@ -212,17 +222,17 @@ static const char *read_value(char *word, uint32_t *values, int *given)
     return read_number(number, &values[place]);
 }
 
-static const char *read_engine(char **words, size_t count, uint8_t *record)
+static const char *read_engine(size_t size, char **words, size_t count, uint8_t *record)
 {
-    uint32_t values[1 + CONFORMITY_POLLUTANTS] = {0};
-    int given[1 + CONFORMITY_POLLUTANTS] = {0};
-    const char *fault = wrong_count(count, 2, 2 + CONFORMITY_POLLUTANTS);
+    uint32_t values[1 + CONFORMITY_POLLUTANTS_28] = {0};
+    int given[1 + CONFORMITY_POLLUTANTS_28] = {0};
+    const char *fault = wrong_count(count, 2, 2 + conformity_pollutants(size));
     size_t i;
     for (i = 1; i < count && fault == NULL; i++) {
-        fault = read_value(words[i], values, given);
+        fault = read_value(size, words[i], values, given);
     }
     if (fault == NULL) {
-        conformity_engine_record(record, values[0], values + 1);
+        conformity_engine_record_sized(size, record, values[0], values + 1);
     }
     return fault;
 }
@@ -233,13 +243,13 @@ static const char *read_words(struct test *test, char **words, size_t count, uin
         return read_plan(test, words, count);
     }
     if (strcmp(words[0], "limit") == 0) {
-        return read_limit(test->plan, words, count, record);
+        return read_limit(test, words, count, record);
     }
     if (strcmp(words[0], "engine") == 0) {
-        return read_engine(words, count, record);
+        return read_engine(test->size, words, count, record);
     }
     if (strcmp(words[0], "stop") == 0) {
-        conformity_stop_record(record);
+        conformity_stop_record_sized(test->size, record);
         return wrong_count(count, 1, 1);
     }
     return "an unknown name";
@@ -251,7 +261,7 @@ static uint32_t engines_on(const struct test *test)
 {
     uint32_t engines = 0;
     size_t at;
-    for (at = 0; at < test->used; at += CONFORMITY_RECORD_SIZE) {
+    for (at = 0; at < test->used; at += test->size) {
         engines += test->sheet[at + KIND] == CONFORMITY_KIND_ENGINE;
     }
     return engines;
@@ -262,7 +272,7 @@ static size_t limits_on(const struct test *test)
 {
     size_t end = 0;
     while (end < test->used && test->sheet[end + KIND] == CONFORMITY_KIND_POLLUTANT) {
-        end += CONFORMITY_RECORD_SIZE;
+        end += test->size;
     }
     return end;
 }
@@ -270,8 +280,8 @@ static size_t limits_on(const struct test *test)
 static int is_limit_on(const struct test *test, const uint8_t *record)
 {
     size_t at;
-    for (at = 0; at < limits_on(test); at += CONFORMITY_RECORD_SIZE) {
-        if (memcmp(test->sheet + at, record, CONFORMITY_RECORD_SIZE) == 0) {
+    for (at = 0; at < limits_on(test); at += test->size) {
+        if (memcmp(test->sheet + at, record, test->size) == 0) {
             return 1;
         }
     }
@@ -280,10 +290,10 @@ static int is_limit_on(const struct test *test, const uint8_t *record)
 
 static enum outcome print_standing(const struct test *test)
 {
-    uint8_t report[CONFORMITY_REPORT_SIZE];
+    uint8_t report[CONFORMITY_REPORT_SIZE_28];
     uint32_t verdict;
     size_t at;
-    if (conformity_report(test->sheet, test->used, report, sizeof report) != 0) {
+    if (conformity_report_sized(test->size, test->sheet, test->used, report, sizeof report) != 0) {
         return trouble("library", "it refuses a sheet that it has accepted");
     }
     verdict = conformity_report_verdict(report);
@@ -292,12 +302,13 @@ static enum outcome print_standing(const struct test *test)
         printf(" at %u (%s)", (unsigned)conformity_report_engine(report),
                WORD(GROUNDS, conformity_report_ground(report)));
     }
-    for (at = 0; at < limits_on(test); at += CONFORMITY_RECORD_SIZE) {
+    for (at = 0; at < limits_on(test); at += test->size) {
         uint32_t pollutant = test->sheet[at + POLLUTANT];
-        uint32_t decision = conformity_report_decision(report, pollutant);
+        uint32_t decision = conformity_report_decision_sized(test->size, report, pollutant);
         printf("; %s %s", WORD(POLLUTANTS, pollutant), WORD(DECISIONS, decision));
         if (decision != CONFORMITY_DECISION_OPEN) {
-            printf(" at %u", (unsigned)conformity_report_decision_engine(report, pollutant));
+            printf(" at %u", (unsigned)conformity_report_decision_engine_sized(test->size, report,
+                                                                               pollutant));
         }
     }
     putchar('\n');
@@ -348,8 +359,8 @@ static enum outcome keep_record(const struct test *test, const uint8_t *record)
 {
     char why[256];
     const char *error, *cut;
-    if (test->path == NULL || (write_file(test->file, record, CONFORMITY_RECORD_SIZE) &&
-                               sync_file(test->file))) {
+    if (test->path == NULL ||
+        (write_file(test->file, record, test->size) && sync_file(test->file))) {
         return UNDECIDED;
     }
     error = strerror(errno);
@@ -359,14 +370,23 @@ static enum outcome keep_record(const struct test *test, const uint8_t *record)
     return trouble(test->path, why);
 }
 
-static enum outcome no_sheet(const char *path, uint32_t code)
+static enum outcome no_sheet(const struct test *test, uint32_t code)
 {
     char why[256];
     uint32_t number = conformity_refusal_number(code);
     snprintf(why, sizeof why, "no sheet, left as it is: refused %u at record %u: %s",
              (unsigned)number, (unsigned)conformity_refusal_record(code),
-             conformity_refusal_text(number));
-    return trouble(path, why);
+             conformity_refusal_text_sized(test->size, number));
+    return trouble(test->path, why);
+}
+
+/* Else its first record could be taken for one of this size, torn or with a torn one behind it. */
+static enum outcome other_size(const struct test *test)
+{
+    char why[64];
+    snprintf(why, sizeof why, "left as it is: its records have %u bytes: see -s",
+             (unsigned)conformity_other_size(test->size));
+    return trouble(test->path, why);
 }
 
 /* A sheet does not stay one where the lines stand in it, or the messages are written to it. */
@@ -391,23 +411,40 @@ static int lock_file(int file)
     return fcntl(file, F_SETLK, &lock) == 0;
 }
 
+/* 0 where the bytes are a sheet of records of this size. */
+static uint32_t refusal_of(size_t size, const uint8_t *bytes, size_t length)
+{
+    uint8_t report[CONFORMITY_REPORT_SIZE_28];
+    return conformity_report_sized(size, bytes, length, report, sizeof report);
+}
+
+/* Also with a torn record behind it, which begins with its kind. */
+static int is_sheet(size_t size, const uint8_t *bytes, size_t length)
+{
+    size_t whole = length - length % size;
+    return refusal_of(size, bytes, whole) == 0 &&
+           (whole == length || bytes[whole + KIND] != NO_RECORD);
+}
+
 /* Takes the sheet that the file holds and prints how it stands; an empty file is a new sheet. */
 static enum outcome resume(struct test *test)
 {
-    uint8_t bytes[CONFORMITY_SHEET_MAX + CONFORMITY_RECORD_SIZE] = {0}; /* all full: too long */
-    uint8_t report[CONFORMITY_REPORT_SIZE];
+    uint8_t bytes[CONFORMITY_SHEET_MAX_28 + CONFORMITY_RECORD_SIZE_28] = {0}; /* full: too long */
     size_t length, torn;
     uint32_t code;
     if (!read_file(test->file, bytes, sizeof bytes, &length)) {
         return trouble(test->path, strerror(errno));
     }
-    torn = length % CONFORMITY_RECORD_SIZE;
+    if (is_sheet(conformity_other_size(test->size), bytes, length)) {
+        return other_size(test);
+    }
+    torn = length % test->size;
     if (torn == length && bytes[KIND] != CONFORMITY_KIND_POLLUTANT) {
         torn = 0; /* these bytes do not begin a sheet: the library refuses them */
     }
     length -= torn;
-    if (length > 0 && (code = conformity_report(bytes, length, report, sizeof report)) != 0) {
-        return no_sheet(test->path, code);
+    if (length > 0 && (code = refusal_of(test->size, bytes, length)) != 0) {
+        return no_sheet(test, code);
     }
     if (lseek(test->file, (off_t)length, SEEK_SET) < 0) {
         return trouble(test->path, strerror(errno));
@@ -464,17 +501,17 @@ static void pass_over(struct test *test, uint32_t refusal, const char *reason)
 
 static enum outcome take_record(struct test *test, const uint8_t *record)
 {
-    uint32_t code = conformity_append(test->sheet, sizeof test->sheet, test->used, record,
-                                      CONFORMITY_RECORD_SIZE);
+    uint32_t code = conformity_append_sized(test->size, test->sheet, sizeof test->sheet,
+                                            test->used, record, test->size);
     if (code != 0) {
         uint32_t number = conformity_refusal_number(code);
-        pass_over(test, number, conformity_refusal_text(number));
+        pass_over(test, number, conformity_refusal_text_sized(test->size, number));
         return UNDECIDED;
     }
     if (keep_record(test, record) == TROUBLE) {
         return TROUBLE;
     }
-    test->used += CONFORMITY_RECORD_SIZE;
+    test->used += test->size;
     if (record[KIND] == CONFORMITY_KIND_POLLUTANT) {
         return UNDECIDED;
     }
@@ -489,7 +526,7 @@ static enum outcome take_record(struct test *test, const uint8_t *record)
 /* The fault is what was wrong with the line as it was read, or NULL. */
 static enum outcome take_line(struct test *test, char *line, const char *fault)
 {
-    uint8_t record[CONFORMITY_RECORD_SIZE] = {NO_RECORD};
+    uint8_t record[CONFORMITY_RECORD_SIZE_28] = {NO_RECORD};
     char *words[MOST_WORDS];
     size_t count = 0;
     char *word = strtok(line, BLANKS);
@@ -608,9 +645,37 @@ static int open_missing_streams(void)
     return 1;
 }
 
+/* -s SIZE and -o FILE, each at most once, in either order. */
+static const char *read_options(int argc, char **argv, const char **size, const char **path)
+{
+    int i;
+    for (i = 1; i + 1 < argc; i += 2) {
+        const char **option = strcmp(argv[i], "-s") == 0   ? size
+                              : strcmp(argv[i], "-o") == 0 ? path
+                                                           : NULL;
+        if (option == NULL || *option != NULL) {
+            return USAGE;
+        }
+        *option = argv[i + 1];
+    }
+    return i == argc ? NULL : USAGE;
+}
+
+/* The word is NULL where there is no -s. */
+static const char *read_size(const char *word, size_t *size)
+{
+    uint32_t number = CONFORMITY_RECORD_SIZE;
+    const char *fault = word == NULL ? NULL : read_number(word, &number);
+    *size = number;
+    return fault == NULL && conformity_pollutants(*size) == 0
+               ? conformity_refusal_text(CONFORMITY_REFUSED_SIZE)
+               : fault;
+}
+
 static enum outcome start(int argc, char **argv)
 {
     static struct test test; /* all zero: an empty sheet */
+    const char *size = NULL, *path = NULL, *fault;
     enum outcome outcome = UNDECIDED;
     if (!open_missing_streams()) {
         return trouble("/dev/null", strerror(errno));
@@ -619,14 +684,18 @@ static enum outcome start(int argc, char **argv)
     signal(SIGXFSZ, SIG_IGN); /* it must not end the program */
     setvbuf(stdout, NULL, _IOLBF, BUFSIZ); /* the lines are watched as the test goes on */
     if (argc == 2 && strcmp(argv[1], "-h") == 0) {
-        fputs(HELP, stdout);
+        printf("usage: %s\n%s", USAGE, HELP);
         return HELPED;
     }
-    if (argc != 1 && (argc != 3 || strcmp(argv[1], "-o") != 0)) {
-        return trouble("usage", "bench [-o FILE] < lines, or bench -h");
+    fault = read_options(argc, argv, &size, &path);
+    if (fault == NULL) {
+        fault = read_size(size, &test.size);
     }
-    if (argc == 3) {
-        outcome = open_sheet(&test, argv[2]);
+    if (fault != NULL) {
+        return trouble("usage", fault);
+    }
+    if (path != NULL) {
+        outcome = open_sheet(&test, path);
     }
     return outcome == UNDECIDED ? run(&test) : outcome;
 }

@@ -1,6 +1,7 @@
 /*
  * header_test - checks include/conformity.h: every constant, builder and reader against document
- * 01's bytes, every refusal, in its order, through the library, and document 02's declared values.
+ * 01's bytes and document 02's for 28-byte records, every refusal, in its order, through the
+ * library, sheets of either size and the converter between them, and document 02's declared values.
  * Prints what fails, and last a line `N passed, M failed`.
  */
 #include <conformity.h>
@@ -34,6 +35,10 @@ static void constants(void)
     CHECK(CONFORMITY_RECORDS_MAX == 37 && CONFORMITY_SHEET_MAX == 740);
     CHECK(CONFORMITY_SHEET_MAX == CONFORMITY_RECORDS_MAX * CONFORMITY_RECORD_SIZE);
     CHECK(CONFORMITY_POLLUTANTS == 4);
+    CHECK(CONFORMITY_RECORD_SIZE_28 == 28 && CONFORMITY_REPORT_SIZE_28 == 28);
+    CHECK(CONFORMITY_RECORDS_MAX_28 == 39 && CONFORMITY_SHEET_MAX_28 == 1092);
+    CHECK(CONFORMITY_SHEET_MAX_28 == CONFORMITY_RECORDS_MAX_28 * CONFORMITY_RECORD_SIZE_28);
+    CHECK(CONFORMITY_POLLUTANTS_28 == 6);
     CHECK(CONFORMITY_VALUE_MAX == 9999999);
     CHECK(CONFORMITY_DEVIATION_MAX == 4000000);
     CHECK(CONFORMITY_CAUSE_MAX == 65534);
@@ -43,6 +48,7 @@ static void constants(void)
     CHECK(CONFORMITY_KIND_STOP == 3);
     CHECK(CONFORMITY_CARBON_MONOXIDE == 1 && CONFORMITY_HYDROCARBONS == 2);
     CHECK(CONFORMITY_NITROGEN_OXIDES == 3 && CONFORMITY_PARTICULATES == 4);
+    CHECK(CONFORMITY_POLLUTANT_5 == 5 && CONFORMITY_POLLUTANT_6 == 6);
     CHECK(CONFORMITY_PLAN_KNOWN_DEVIATION == 1 && CONFORMITY_PLAN_UNKNOWN_DEVIATION == 2);
     CHECK(CONFORMITY_PLAN_ATTRIBUTES == 3 && CONFORMITY_PLAN_IN_SERVICE == 4);
     CHECK(CONFORMITY_PLAN_CORRECTED == 5);
@@ -53,6 +59,29 @@ static void constants(void)
     CHECK(CONFORMITY_GROUND_REFERRED == 4);
     CHECK(CONFORMITY_DECISION_OPEN == 0 && CONFORMITY_DECISION_PASS == 1);
     CHECK(CONFORMITY_DECISION_FAIL == 2);
+}
+
+/* Sizes that no record has; the last two are 20 and 28 in the low bytes. */
+static const size_t NO_SIZES[] = {
+    0, 1, 4, 19, 21, 24, 27, 29, 40, 56, 280, SIZE_MAX, SIZE_MAX / 2 + 21, SIZE_MAX / 2 + 29,
+};
+#define NO_SIZE_COUNT (sizeof NO_SIZES / sizeof NO_SIZES[0])
+
+static void sizes(void)
+{
+    size_t i;
+    CHECK(conformity_pollutants(20) == 4 && conformity_pollutants(28) == 6);
+    CHECK(conformity_other_size(20) == 28 && conformity_other_size(28) == 20);
+    CHECK(conformity_converted_length(20, 100) == 140);
+    CHECK(conformity_converted_length(28, 140) == 100);
+    CHECK(conformity_converted_length(20, CONFORMITY_SHEET_MAX) == 1036);
+    CHECK(conformity_converted_length(28, 1036) == CONFORMITY_SHEET_MAX);
+    CHECK(conformity_converted_length(20, 0) == 0 && conformity_converted_length(28, 0) == 0);
+    for (i = 0; i < NO_SIZE_COUNT; i++) {
+        CHECK(conformity_pollutants(NO_SIZES[i]) == 0);
+        CHECK(conformity_other_size(NO_SIZES[i]) == 0);
+        CHECK(conformity_converted_length(NO_SIZES[i], 140) == 0);
+    }
 }
 
 static void builders(void)
@@ -88,6 +117,49 @@ static void builders(void)
     CHECK(same(record, wide_engine, 20));
 }
 
+/* The bytes from a place on are 0xa5 still. */
+static int is_untouched(const uint8_t *bytes, size_t place, size_t length)
+{
+    while (place < length && bytes[place] == 0xa5) {
+        place++;
+    }
+    return place == length;
+}
+
+/* The bytes of a 28-byte record; those of a 20-byte one are its first 20. For no other size is
+   there a record. */
+static void sized_builders(void)
+{
+    static const uint8_t pollutant[28] = {1, 6, 1, 0, 0x7f, 0x96, 0x98, 0, 0x00, 0x09, 0x3d, 0};
+    static const uint8_t engine[28] = {2,    0,    0xfe, 0xff, 0x04, 0x03, 0x02, 0x01, 0,    0,
+                                       0,    0,    0xff, 0xff, 0xff, 0xff, 0x7f, 0x96, 0x98, 0,
+                                       0x08, 0x07, 0x06, 0x05, 0x0c, 0x0b, 0x0a, 0x09};
+    static const uint8_t stop[28] = {3};
+    static const uint32_t measurements[6] = {
+        0x01020304, 0, UINT32_MAX, CONFORMITY_VALUE_MAX, 0x05060708, 0x090a0b0c,
+    };
+    size_t i;
+    for (i = 0; i < 2 + NO_SIZE_COUNT; i++) {
+        size_t size = i == 0 ? 20 : i == 1 ? 28 : NO_SIZES[i - 2];
+        size_t written = i < 2 ? size : 0;
+        uint8_t record[CONFORMITY_RECORD_SIZE_28 + 1];
+
+        memset(record, 0xa5, sizeof record);
+        conformity_pollutant_record_sized(size, record, CONFORMITY_POLLUTANT_6,
+                                          CONFORMITY_PLAN_KNOWN_DEVIATION, CONFORMITY_VALUE_MAX,
+                                          CONFORMITY_DEVIATION_MAX);
+        CHECK(same(record, pollutant, written) && is_untouched(record, written, sizeof record));
+
+        memset(record, 0xa5, sizeof record);
+        conformity_engine_record_sized(size, record, CONFORMITY_CAUSE_MAX, measurements);
+        CHECK(same(record, engine, written) && is_untouched(record, written, sizeof record));
+
+        memset(record, 0xa5, sizeof record);
+        conformity_stop_record_sized(size, record);
+        CHECK(same(record, stop, written) && is_untouched(record, written, sizeof record));
+    }
+}
+
 static void readers(void)
 {
     static const uint8_t report[20] = {16, 2, 1, 31, 1, 3, 0, 0, 2, 31, 1, 30};
@@ -114,10 +186,38 @@ static void readers(void)
     CHECK(conformity_report_decision_engine(report, UINT32_MAX) == 0);
 }
 
+static void sized_readers(void)
+{
+    static const uint8_t report[28] = {16, 2, 1, 31, 1, 3, 0, 0, 2, 31, 1, 30, 2, 29, 1, 28};
+    static const uint32_t decisions[8] = {0, 1, 0, 2, 1, 2, 1, 0};
+    static const uint32_t engines[8] = {0, 3, 0, 31, 30, 29, 28, 0};
+    uint32_t pollutant;
+    size_t i;
+    CHECK(conformity_is_report(report) == 1);
+    CHECK(conformity_report_verdict(report) == CONFORMITY_VERDICT_FAIL);
+    CHECK(conformity_report_ground(report) == CONFORMITY_GROUND_ROW);
+    CHECK(conformity_report_engine(report) == 31);
+    for (pollutant = 0; pollutant < 8; pollutant++) {
+        int has_four = pollutant <= 4;
+        CHECK(conformity_report_decision_sized(28, report, pollutant) == decisions[pollutant]);
+        CHECK(conformity_report_decision_engine_sized(28, report, pollutant) == engines[pollutant]);
+        CHECK(conformity_report_decision_sized(20, report, pollutant) ==
+              (has_four ? decisions[pollutant] : 0));
+        CHECK(conformity_report_decision_engine_sized(20, report, pollutant) ==
+              (has_four ? engines[pollutant] : 0));
+    }
+    CHECK(conformity_report_decision_sized(28, report, UINT32_MAX) == 0);
+    CHECK(conformity_report_decision_engine_sized(28, report, UINT32_MAX) == 0);
+    for (i = 0; i < NO_SIZE_COUNT; i++) {
+        CHECK(conformity_report_decision_sized(NO_SIZES[i], report, 1) == 0);
+        CHECK(conformity_report_decision_engine_sized(NO_SIZES[i], report, 1) == 0);
+    }
+}
+
 /* Of the numbers up to the greatest refusal's. */
 static int is_no_refusal(uint32_t number)
 {
-    return number >= 16 && number <= 19;
+    return (number >= 16 && number <= 19) || (number >= 23 && number <= 29);
 }
 
 static void codes(void)
@@ -130,8 +230,11 @@ static void codes(void)
     CHECK(conformity_refusal_record(15 * 256 + 255) == 255);
     CHECK(CONFORMITY_REFUSED_TESTS == 20 && CONFORMITY_REFUSED_VALUE == 21);
     CHECK(CONFORMITY_REFUSED_LATE_TEST == 22);
-    /* A sentence of its own for each number: 0, 1 to 15, 20 to 22, and one for all others. */
-    for (number = 0; number <= CONFORMITY_REFUSED_LATE_TEST; number++) {
+    CHECK(CONFORMITY_REFUSED_SIZE == 30 && CONFORMITY_REFUSED_NARROWING == 31);
+    CHECK(CONFORMITY_REFUSED_CONVERTED_OUTPUT == 32);
+    /* A sentence of its own for each number: 0, 1 to 15, 20 to 22, 30 to 32, and one for all
+       others. */
+    for (number = 0; number <= CONFORMITY_REFUSED_CONVERTED_OUTPUT; number++) {
         CHECK(conformity_refusal_text(number)[0] != '\0');
         for (other = 0; other < number; other++) {
             CHECK((strcmp(conformity_refusal_text(number), conformity_refusal_text(other)) == 0) ==
@@ -139,13 +242,85 @@ static void codes(void)
         }
     }
     CHECK(strcmp(conformity_refusal_text(16), conformity_refusal_text(UINT32_MAX)) == 0);
-    CHECK(strcmp(conformity_refusal_text(16), conformity_refusal_text(23)) == 0);
+    CHECK(strcmp(conformity_refusal_text(16), conformity_refusal_text(33)) == 0);
+}
+
+struct sized_text {
+    uint32_t number;
+    const char *of_20;
+    const char *of_28;
+};
+
+/* The sentences that have a number of the size in them. */
+static const struct sized_text SIZED_TEXTS[] = {
+    {CONFORMITY_REFUSED_LENGTH, "longer than 740 bytes", "longer than 1092 bytes"},
+    {CONFORMITY_REFUSED_POLLUTANT, "not 1 to 4,", "not 1 to 6,"},
+    {CONFORMITY_REFUSED_RECORD, "not 20 bytes", "not 28 bytes"},
+    {CONFORMITY_REFUSED_OUTPUT, "than 20 bytes", "than 28 bytes"},
+};
+#define SIZED_TEXT_COUNT (sizeof SIZED_TEXTS / sizeof SIZED_TEXTS[0])
+
+static int is_sized_text(uint32_t number)
+{
+    size_t i;
+    for (i = 0; i < SIZED_TEXT_COUNT; i++) {
+        if (SIZED_TEXTS[i].number == number) {
+            return 1;
+        }
+    }
+    return 0;
+}
+
+static void sized_texts(void)
+{
+    uint32_t number;
+    size_t i;
+    for (number = 0; number <= CONFORMITY_REFUSED_CONVERTED_OUTPUT + 1; number++) {
+        const char *text = conformity_refusal_text(number);
+        CHECK(strcmp(conformity_refusal_text_sized(20, number), text) == 0);
+        CHECK(strcmp(conformity_refusal_text_sized(24, number), text) == 0);
+        CHECK((strcmp(conformity_refusal_text_sized(28, number), text) == 0) !=
+              is_sized_text(number));
+    }
+    for (i = 0; i < SIZED_TEXT_COUNT; i++) {
+        const struct sized_text *text = &SIZED_TEXTS[i];
+        CHECK(strstr(conformity_refusal_text(text->number), text->of_20) != NULL);
+        CHECK(strstr(conformity_refusal_text_sized(28, text->number), text->of_28) != NULL);
+    }
 }
 
 /* ---- The header and the library together ---- */
 
+/*
+ * The tests that follow are made three times: through the entries that take no size, then through
+ * those that do, with 20 and with 28.
+ */
+static size_t record_size = CONFORMITY_RECORD_SIZE;
+static int size_is_named;
+
+static uint32_t append_to(uint8_t *bytes, size_t length, size_t place, const uint8_t *record,
+                          size_t record_length)
+{
+    return size_is_named
+               ? conformity_append_sized(record_size, bytes, length, place, record, record_length)
+               : conformity_append(bytes, length, place, record, record_length);
+}
+
+static uint32_t report_on(const uint8_t *sheet, size_t sheet_length, uint8_t *output,
+                          size_t output_length)
+{
+    return size_is_named
+               ? conformity_report_sized(record_size, sheet, sheet_length, output, output_length)
+               : conformity_report(sheet, sheet_length, output, output_length);
+}
+
+static size_t longest(void)
+{
+    return record_size == CONFORMITY_RECORD_SIZE ? CONFORMITY_SHEET_MAX : CONFORMITY_SHEET_MAX_28;
+}
+
 /* A buffer longer than any sheet; its bytes are compared with a copy after each call. */
-static uint8_t buffer[CONFORMITY_SHEET_MAX + 2 * CONFORMITY_RECORD_SIZE];
+static uint8_t buffer[CONFORMITY_SHEET_MAX_28 + 2 * CONFORMITY_RECORD_SIZE_28];
 static uint8_t before[sizeof buffer];
 static size_t used;
 
@@ -160,10 +335,10 @@ static uint32_t append_length(const uint8_t *record, size_t record_length, size_
 {
     uint32_t code;
     memcpy(before, buffer, sizeof buffer);
-    code = conformity_append(buffer, buffer_length, used, record, record_length);
+    code = append_to(buffer, buffer_length, used, record, record_length);
     if (code == 0) {
-        memcpy(before + used, record, CONFORMITY_RECORD_SIZE);
-        used += CONFORMITY_RECORD_SIZE;
+        memcpy(before + used, record, record_size);
+        used += record_size;
     }
     CHECK(same(buffer, before, sizeof buffer));
     return code;
@@ -171,31 +346,36 @@ static uint32_t append_length(const uint8_t *record, size_t record_length, size_
 
 static uint32_t append(const uint8_t *record)
 {
-    return append_length(record, CONFORMITY_RECORD_SIZE, sizeof buffer);
+    return append_length(record, record_size, sizeof buffer);
 }
 
 static uint32_t append_pollutant(uint32_t pollutant, uint32_t plan, uint32_t limit,
                                  uint32_t deviation)
 {
-    uint8_t record[CONFORMITY_RECORD_SIZE];
-    conformity_pollutant_record(record, pollutant, plan, limit, deviation);
+    uint8_t record[CONFORMITY_RECORD_SIZE_28];
+    conformity_pollutant_record_sized(record_size, record, pollutant, plan, limit, deviation);
     return append(record);
 }
 
-/* An engine that measures particulates alone. */
+/* An engine that measures one pollutant alone. */
+static uint32_t append_measured(uint32_t pollutant, uint32_t measurement, uint32_t cause)
+{
+    uint32_t measurements[CONFORMITY_POLLUTANTS_28] = {0, 0, 0, 0, 0, 0};
+    uint8_t record[CONFORMITY_RECORD_SIZE_28];
+    measurements[pollutant - 1] = measurement;
+    conformity_engine_record_sized(record_size, record, cause, measurements);
+    return append(record);
+}
+
 static uint32_t append_engine(uint32_t particulates, uint32_t cause)
 {
-    uint32_t measurements[CONFORMITY_POLLUTANTS] = {0, 0, 0, 0};
-    uint8_t record[CONFORMITY_RECORD_SIZE];
-    measurements[CONFORMITY_PARTICULATES - 1] = particulates;
-    conformity_engine_record(record, cause, measurements);
-    return append(record);
+    return append_measured(CONFORMITY_PARTICULATES, particulates, cause);
 }
 
 static uint32_t append_stop(void)
 {
-    uint8_t record[CONFORMITY_RECORD_SIZE];
-    conformity_stop_record(record);
+    uint8_t record[CONFORMITY_RECORD_SIZE_28];
+    conformity_stop_record_sized(record_size, record);
     return append(record);
 }
 
@@ -204,14 +384,40 @@ static uint32_t code_of(uint32_t number, uint32_t record)
     return number * 256 + record;
 }
 
+/* Of each kind, every byte that must be zero. */
+static void refused_zeros(void)
+{
+    static const uint32_t measurements[CONFORMITY_POLLUTANTS_28] = {0, 0, 0, 140, 0, 0};
+    uint8_t record[CONFORMITY_RECORD_SIZE_28];
+    size_t i;
+    new_sheet();
+    for (i = 12; i <= record_size; i++) {
+        size_t byte = i < record_size ? i : 3;
+        conformity_pollutant_record_sized(record_size, record, 4, 3, 150, 0);
+        record[byte] = 1;
+        CHECK(append(record) == code_of(CONFORMITY_REFUSED_ZERO, 0));
+    }
+    CHECK(append_pollutant(4, 3, 150, 0) == 0);
+    for (i = 1; i < record_size; i++) {
+        conformity_stop_record_sized(record_size, record);
+        record[i] = 1;
+        CHECK(append(record) == code_of(CONFORMITY_REFUSED_ZERO, 1));
+    }
+    conformity_engine_record_sized(record_size, record, 0, measurements);
+    record[1] = 1;
+    CHECK(append(record) == code_of(CONFORMITY_REFUSED_ZERO, 1));
+}
+
 static void refused_records(void)
 {
-    uint8_t record[CONFORMITY_RECORD_SIZE] = {0};
+    uint8_t record[CONFORMITY_RECORD_SIZE_28] = {0};
+    uint32_t pollutant;
     size_t i;
     new_sheet();
     CHECK(append(record) == code_of(CONFORMITY_REFUSED_KIND, 0));
     CHECK(append_engine(140, 0) == code_of(CONFORMITY_REFUSED_ORDER, 0));
-    CHECK(append_pollutant(5, 3, 150, 0) == code_of(CONFORMITY_REFUSED_POLLUTANT, 0));
+    CHECK(append_pollutant(conformity_pollutants(record_size) + 1, 3, 150, 0) ==
+          code_of(CONFORMITY_REFUSED_POLLUTANT, 0));
     CHECK(append_pollutant(257, 3, 150, 0) == code_of(CONFORMITY_REFUSED_POLLUTANT, 0));
     CHECK(append_pollutant(4, 257, 150, 0) == code_of(CONFORMITY_REFUSED_PLAN, 0));
     CHECK(append_pollutant(4, 3, 0, 0) == code_of(CONFORMITY_REFUSED_LIMIT, 0));
@@ -224,9 +430,12 @@ static void refused_records(void)
     CHECK(append_pollutant(3, 3, 150, 0) == code_of(CONFORMITY_REFUSED_POLLUTANT, 1));
     CHECK(append_engine(CONFORMITY_VALUE_MAX + 1, 0) == code_of(CONFORMITY_REFUSED_MEASUREMENT, 1));
     CHECK(append_engine(140, 1) == code_of(CONFORMITY_REFUSED_CAUSE, 1));
-    conformity_stop_record(record);
-    record[19] = 1;
-    CHECK(append(record) == code_of(CONFORMITY_REFUSED_ZERO, 1));
+    for (pollutant = 1; pollutant <= conformity_pollutants(record_size); pollutant++) {
+        uint32_t measurements[CONFORMITY_POLLUTANTS_28] = {0, 0, 0, 140, 0, 0};
+        measurements[pollutant - 1] = pollutant == CONFORMITY_PARTICULATES ? 0 : 1;
+        conformity_engine_record_sized(record_size, record, 0, measurements);
+        CHECK(append(record) == code_of(CONFORMITY_REFUSED_MEASUREMENT, 1));
+    }
     for (i = 1; i <= 19; i++) {
         CHECK(append_engine(CONFORMITY_VALUE_MAX, 0) == 0);
     }
@@ -245,90 +454,136 @@ static void refused_records(void)
 
 static void refused_memory(void)
 {
-    uint8_t record[CONFORMITY_RECORD_SIZE + 1] = {0};
-    uint8_t output[CONFORMITY_REPORT_SIZE + 1];
+    uint8_t record[CONFORMITY_RECORD_SIZE_28 + 1] = {0};
+    uint8_t output[CONFORMITY_REPORT_SIZE_28 + 1];
     uint8_t untouched[sizeof output];
-    static const uint8_t nothing_yet[CONFORMITY_REPORT_SIZE] = {CONFORMITY_REPORT_MARK};
+    static const uint8_t nothing_yet[CONFORMITY_REPORT_SIZE_28] = {CONFORMITY_REPORT_MARK};
+    size_t size = record_size;
     new_sheet();
-    conformity_pollutant_record(record, 4, 3, 150, 0);
+    conformity_pollutant_record_sized(size, record, 4, 3, 150, 0);
     /* 14 before 13 before the sheet there before the joined sheet. */
-    CHECK(append_length(record, 19, 0) == code_of(CONFORMITY_REFUSED_RECORD, 0));
-    CHECK(append_length(record, 21, sizeof buffer) == code_of(CONFORMITY_REFUSED_RECORD, 0));
+    CHECK(append_length(record, size - 1, 0) == code_of(CONFORMITY_REFUSED_RECORD, 0));
+    CHECK(append_length(record, size + 1, sizeof buffer) == code_of(CONFORMITY_REFUSED_RECORD, 0));
     CHECK(append_length(record, 0, sizeof buffer) == code_of(CONFORMITY_REFUSED_RECORD, 0));
-    CHECK(append_length(record, 20, 0) == code_of(CONFORMITY_REFUSED_BUFFER, 0));
-    CHECK(append_length(record, 20, 19) == code_of(CONFORMITY_REFUSED_BUFFER, 0));
+    CHECK(append_length(record, conformity_other_size(size), sizeof buffer) ==
+          code_of(CONFORMITY_REFUSED_RECORD, 0));
+    CHECK(append_length(record, size, 0) == code_of(CONFORMITY_REFUSED_BUFFER, 0));
+    CHECK(append_length(record, size, size - 1) == code_of(CONFORMITY_REFUSED_BUFFER, 0));
     used = 1;
-    CHECK(append_length(record, 20, 20) == code_of(CONFORMITY_REFUSED_BUFFER, 0));
-    CHECK(append_length(record, 20, 21) == code_of(CONFORMITY_REFUSED_LENGTH, 0));
+    CHECK(append_length(record, size, size) == code_of(CONFORMITY_REFUSED_BUFFER, 0));
+    CHECK(append_length(record, size, size + 1) == code_of(CONFORMITY_REFUSED_LENGTH, 0));
     used = SIZE_MAX;
-    CHECK(conformity_append(buffer, sizeof buffer, used, record, 20) ==
+    CHECK(append_to(buffer, sizeof buffer, used, record, size) ==
           code_of(CONFORMITY_REFUSED_BUFFER, 0));
-    used = 20; /* the sheet there is 0xa5 bytes, and the joined one has a fault in record 0 too */
-    CHECK(append_length(record, 20, sizeof buffer) == code_of(CONFORMITY_REFUSED_KIND, 0));
+    used = size; /* the sheet there is 0xa5 bytes, and the joined one has a fault in record 0 too */
+    CHECK(append_length(record, size, sizeof buffer) == code_of(CONFORMITY_REFUSED_KIND, 0));
     used = 0;
-    CHECK(append_length(record, 20, 20) == 0);
+    CHECK(append_length(record, size, size) == 0);
 
     memset(output, 0xa5, sizeof output);
     memset(untouched, 0xa5, sizeof untouched);
-    CHECK(conformity_report(buffer, 0, output, 19) == code_of(CONFORMITY_REFUSED_OUTPUT, 0));
-    CHECK(conformity_report(buffer, 0, output, 20) == code_of(CONFORMITY_REFUSED_LENGTH, 0));
-    CHECK(conformity_report(buffer, 21, output, 20) == code_of(CONFORMITY_REFUSED_LENGTH, 0));
-    CHECK(conformity_report(buffer, 760, output, 20) == code_of(CONFORMITY_REFUSED_LENGTH, 0));
-    CHECK(conformity_report(buffer, 40, output, 21) == code_of(CONFORMITY_REFUSED_KIND, 1));
+    CHECK(report_on(buffer, 0, output, size - 1) == code_of(CONFORMITY_REFUSED_OUTPUT, 0));
+    CHECK(report_on(buffer, 0, output, size) == code_of(CONFORMITY_REFUSED_LENGTH, 0));
+    CHECK(report_on(buffer, size + 1, output, size) == code_of(CONFORMITY_REFUSED_LENGTH, 0));
+    CHECK(report_on(buffer, longest() + size, output, size) ==
+          code_of(CONFORMITY_REFUSED_LENGTH, 0));
+    CHECK(report_on(buffer, 2 * size, output, size + 1) == code_of(CONFORMITY_REFUSED_KIND, 1));
     CHECK(same(output, untouched, sizeof output));
-    CHECK(conformity_report(buffer, 20, output, 21) == 0);
-    CHECK(same(output, nothing_yet, sizeof nothing_yet) && output[20] == 0xa5);
+    CHECK(report_on(buffer, size, output, size + 1) == 0);
+    CHECK(same(output, nothing_yet, size) && output[size] == 0xa5);
 }
 
 /* Where a length is 0 the pointer may be null: the answers are those for any other pointer. */
 static void no_memory(void)
 {
-    uint8_t bytes[40];
+    uint8_t bytes[2 * CONFORMITY_RECORD_SIZE_28];
     uint8_t *pointers[2] = {NULL, bytes};
     uint32_t refused_record = code_of(CONFORMITY_REFUSED_RECORD, 0);
     uint32_t refused_buffer = code_of(CONFORMITY_REFUSED_BUFFER, 0);
+    size_t size = record_size;
     size_t i;
-    conformity_pollutant_record(bytes, CONFORMITY_PARTICULATES, CONFORMITY_PLAN_ATTRIBUTES, 150, 0);
+    conformity_pollutant_record_sized(size, bytes, CONFORMITY_PARTICULATES,
+                                      CONFORMITY_PLAN_ATTRIBUTES, 150, 0);
     for (i = 0; i < 2; i++) {
         uint8_t *none = pointers[i];
-        CHECK(conformity_append(none, 0, 0, none, 0) == refused_record);
-        CHECK(conformity_append(none, 0, 20, none, 0) == refused_record);
-        CHECK(conformity_append(none, 0, 0, bytes, 20) == refused_buffer);
-        CHECK(conformity_append(none, 0, SIZE_MAX, bytes, 20) == refused_buffer);
-        CHECK(conformity_append(bytes, 40, 20, none, 0) == refused_record);
-        CHECK(conformity_report(none, 0, none, 0) == code_of(CONFORMITY_REFUSED_OUTPUT, 0));
-        CHECK(conformity_report(bytes, 20, none, 0) == code_of(CONFORMITY_REFUSED_OUTPUT, 0));
-        CHECK(conformity_report(none, 0, bytes + 20, 20) == code_of(CONFORMITY_REFUSED_LENGTH, 0));
+        CHECK(append_to(none, 0, 0, none, 0) == refused_record);
+        CHECK(append_to(none, 0, size, none, 0) == refused_record);
+        CHECK(append_to(none, 0, 0, bytes, size) == refused_buffer);
+        CHECK(append_to(none, 0, SIZE_MAX, bytes, size) == refused_buffer);
+        CHECK(append_to(bytes, 2 * size, size, none, 0) == refused_record);
+        CHECK(report_on(none, 0, none, 0) == code_of(CONFORMITY_REFUSED_OUTPUT, 0));
+        CHECK(report_on(bytes, size, none, 0) == code_of(CONFORMITY_REFUSED_OUTPUT, 0));
+        CHECK(report_on(none, 0, bytes + size, size) == code_of(CONFORMITY_REFUSED_LENGTH, 0));
+        CHECK(conformity_convert(size, none, 0, none, 0) == code_of(CONFORMITY_REFUSED_LENGTH, 0));
+        CHECK(conformity_convert(size, bytes, size, none, 0) ==
+              code_of(CONFORMITY_REFUSED_CONVERTED_OUTPUT, 0));
     }
 }
 
-/* The longest sheet there is: four pollutants, 32 engines and a stop. */
+/* The longest sheet there is: every pollutant, 32 engines and a stop. */
 static void longest_sheet(void)
 {
-    static const uint32_t measurements[CONFORMITY_POLLUTANTS] = {1000, 1000, 1000, 1000};
-    uint8_t record[CONFORMITY_RECORD_SIZE];
+    static const uint32_t measurements[CONFORMITY_POLLUTANTS_28] = {1000, 1000, 1000,
+                                                                    1000, 1000, 1000};
+    uint8_t record[CONFORMITY_RECORD_SIZE_28];
     uint32_t pollutant;
     int engine;
     new_sheet();
-    for (pollutant = 1; pollutant <= CONFORMITY_POLLUTANTS; pollutant++) {
+    for (pollutant = 1; pollutant <= conformity_pollutants(record_size); pollutant++) {
         CHECK(append_pollutant(pollutant, CONFORMITY_PLAN_UNKNOWN_DEVIATION, 1000, 0) == 0);
     }
-    conformity_engine_record(record, 0, measurements);
+    conformity_engine_record_sized(record_size, record, 0, measurements);
     for (engine = 1; engine <= 32; engine++) {
         CHECK(append(record) == 0);
     }
     CHECK(append_stop() == 0);
-    CHECK(used == CONFORMITY_SHEET_MAX);
+    CHECK(used == longest());
     CHECK(append_stop() == code_of(CONFORMITY_REFUSED_LENGTH, 0));
-    conformity_stop_record(record);
-    CHECK(append_length(record, 20, CONFORMITY_SHEET_MAX) == code_of(CONFORMITY_REFUSED_BUFFER, 0));
+    conformity_stop_record_sized(record_size, record);
+    CHECK(append_length(record, record_size, longest()) == code_of(CONFORMITY_REFUSED_BUFFER, 0));
 }
+
+/* ---- The converter ---- */
+
+/* As long as any output, and a record more. */
+static uint8_t converted[CONFORMITY_SHEET_MAX_28 + CONFORMITY_RECORD_SIZE_28];
+
+/* Converts into that many bytes of `converted`; checks that just the converted sheet is written on
+   success, and nothing on a refusal. */
+static uint32_t convert(size_t size, const uint8_t *sheet, size_t sheet_length,
+                        size_t output_length)
+{
+    size_t written;
+    uint32_t code;
+    memset(converted, 0xa5, sizeof converted);
+    code = conformity_convert(size, sheet, sheet_length, converted, output_length);
+    written = code == 0 ? conformity_converted_length(size, sheet_length) : 0;
+    CHECK(is_untouched(converted, written, sizeof converted));
+    return code;
+}
+
+/* The sheet in the other size has the same report, but for its length, and is the sheet again when
+   it is converted back. */
+static void check_converted(const uint8_t *sheet_report)
+{
+    uint8_t other_report[CONFORMITY_REPORT_SIZE_28] = {0};
+    uint8_t back[CONFORMITY_SHEET_MAX_28];
+    size_t other = conformity_other_size(record_size);
+    size_t length = conformity_converted_length(record_size, used);
+    CHECK(convert(record_size, buffer, used, length) == 0);
+    CHECK(conformity_report_sized(other, converted, length, other_report, other) == 0);
+    CHECK(same(other_report, sheet_report, sizeof other_report));
+    CHECK(conformity_convert(other, converted, length, back, used) == 0);
+    CHECK(same(back, buffer, used));
+}
+
+/* ---- Verdicts ---- */
 
 /* Checks the report of the sheet for particulates: verdict, ground, engine and decision. */
 #define CHECK_REPORT(verdict, ground, engine, decision) \
     do { \
-        uint8_t report_[CONFORMITY_REPORT_SIZE]; \
-        CHECK(conformity_report(buffer, used, report_, sizeof report_) == 0); \
+        uint8_t report_[CONFORMITY_REPORT_SIZE_28] = {0}; \
+        CHECK(report_on(buffer, used, report_, sizeof report_) == 0); \
         CHECK(conformity_is_report(report_)); \
         CHECK(conformity_report_verdict(report_) == (verdict)); \
         CHECK(conformity_report_ground(report_) == (ground)); \
@@ -336,6 +591,7 @@ static void longest_sheet(void)
         CHECK(conformity_report_decision(report_, 3) == CONFORMITY_DECISION_OPEN); \
         CHECK(conformity_report_decision(report_, 4) == (decision)); \
         CHECK(conformity_report_decision_engine(report_, 4) == ((decision) == 0 ? 0u : (engine))); \
+        check_converted(report_); \
     } while (0)
 
 /* Each verdict and ground once, on document 01's own series where it has one. */
@@ -440,6 +696,206 @@ static void finer_logarithm(void)
     CHECK_REPORT(CONFORMITY_VERDICT_FAIL, CONFORMITY_GROUND_ROW, 3, CONFORMITY_DECISION_FAIL);
 }
 
+/* ---- Document 02, F-10: two sizes ---- */
+
+static void each_way(void)
+{
+    static const struct {
+        size_t size;
+        int is_named;
+    } ways[] = {{20, 0}, {20, 1}, {28, 1}};
+    size_t i;
+    for (i = 0; i < sizeof ways / sizeof ways[0]; i++) {
+        record_size = ways[i].size;
+        size_is_named = ways[i].is_named;
+        refused_zeros();
+        refused_records();
+        refused_memory();
+        no_memory();
+        longest_sheet();
+        verdicts();
+        referral();
+        corrected_sheet();
+        finer_logarithm();
+    }
+}
+
+static void new_sheet_of_28(void)
+{
+    record_size = CONFORMITY_RECORD_SIZE_28;
+    size_is_named = 1;
+    new_sheet();
+}
+
+/* Pollutants 1 and 6 of plan 3, and four engines: the sheet of the tests that follow. */
+static void six_pollutants(void)
+{
+    static const uint32_t measurements[CONFORMITY_POLLUTANTS_28] = {90, 0, 0, 0, 0, 50};
+    uint8_t record[CONFORMITY_RECORD_SIZE_28];
+    int engine;
+    new_sheet_of_28();
+    CHECK(append_pollutant(1, CONFORMITY_PLAN_ATTRIBUTES, 100, 0) == 0);
+    CHECK(append_pollutant(6, CONFORMITY_PLAN_ATTRIBUTES, 50, 0) == 0);
+    conformity_engine_record_sized(record_size, record, 0, measurements);
+    for (engine = 1; engine <= 4; engine++) {
+        CHECK(append(record) == 0);
+    }
+}
+
+static void report_of_six(void)
+{
+    static const uint8_t expected[28] = {16, 1, 1, 4, 1, 4, 0, 0, 0, 0, 0, 0, 0, 0, 1, 4};
+    uint8_t report[CONFORMITY_REPORT_SIZE_28 + 2];
+    six_pollutants();
+    memset(report, 0xa5, sizeof report);
+    CHECK(report_on(buffer, used, report, 27) == code_of(CONFORMITY_REFUSED_OUTPUT, 0));
+    CHECK(is_untouched(report, 0, sizeof report));
+    CHECK(report_on(buffer, used, report, sizeof report) == 0);
+    CHECK(same(report, expected, 28) && is_untouched(report, 28, sizeof report));
+}
+
+/* Each pollutant alone, also 5 and 6: fails in a pair of its own, and makes gross emitters. */
+static void each_pollutant(void)
+{
+    uint32_t pollutant;
+    for (pollutant = 1; pollutant <= CONFORMITY_POLLUTANTS_28; pollutant++) {
+        uint8_t expected[28] = {16, 2, 1, 3};
+        uint8_t equal_cause[28] = {16, 2, 2, 3};
+        uint8_t report[CONFORMITY_REPORT_SIZE_28];
+        int engine;
+        new_sheet_of_28();
+        CHECK(append_pollutant(pollutant, CONFORMITY_PLAN_ATTRIBUTES, 150, 0) == 0);
+        for (engine = 1; engine <= 3; engine++) {
+            CHECK(append_measured(pollutant, 151, 0) == 0);
+        }
+        CHECK(report_on(buffer, used, report, sizeof report) == 0);
+        expected[2 + 2 * pollutant] = 2;
+        expected[3 + 2 * pollutant] = 3;
+        CHECK(same(report, expected, 28));
+
+        new_sheet_of_28();
+        CHECK(append_pollutant(pollutant, CONFORMITY_PLAN_IN_SERVICE, 1000, 0) == 0);
+        CHECK(append_measured(pollutant, 1501, 0) == code_of(CONFORMITY_REFUSED_CAUSE, 1));
+        CHECK(append_measured(pollutant, 1500, 7) == code_of(CONFORMITY_REFUSED_CAUSE, 1));
+        CHECK(append_measured(pollutant, 1501, 7) == 0);
+        CHECK(append_measured(pollutant, 1501, 7) == 0);
+        CHECK(append_measured(pollutant, 1500, 0) == 0);
+        CHECK(report_on(buffer, used, report, sizeof report) == 0);
+        CHECK(same(report, equal_cause, 28));
+    }
+}
+
+/* Document 01's example in both sizes; the bytes that are not typed are zero. */
+#define EXAMPLE_LIMIT {1, 4, 3, 0, 150}
+#define EXAMPLE_ENGINE {2, 0, 0, 0, 0, 0, 0, 0, 0, 0, 0, 0, 0, 0, 0, 0, 140}
+#define EXAMPLE {EXAMPLE_LIMIT, EXAMPLE_ENGINE, EXAMPLE_ENGINE, EXAMPLE_ENGINE, EXAMPLE_ENGINE}
+static const uint8_t EXAMPLE_20[5][20] = EXAMPLE;
+static const uint8_t EXAMPLE_28[5][28] = EXAMPLE;
+
+/* Of either size, into outputs of every length about the converted sheet's. */
+static void converted_example(void)
+{
+    const uint8_t *narrow = &EXAMPLE_20[0][0], *wide = &EXAMPLE_28[0][0];
+    size_t length;
+    for (length = 0; length <= 141; length++) {
+        CHECK(convert(20, narrow, 100, length) ==
+              (length < 140 ? code_of(CONFORMITY_REFUSED_CONVERTED_OUTPUT, 0) : 0));
+        CHECK(length < 140 || same(converted, wide, 140));
+        CHECK(convert(28, wide, 140, length) ==
+              (length < 100 ? code_of(CONFORMITY_REFUSED_CONVERTED_OUTPUT, 0) : 0));
+        CHECK(length < 100 || same(converted, narrow, 100));
+    }
+}
+
+/* The beginning of a sheet is a sheet where it ends with a record. */
+static void converted_beginnings(void)
+{
+    const uint8_t *sheets[2] = {&EXAMPLE_20[0][0], &EXAMPLE_28[0][0]};
+    static const size_t record_sizes[2] = {20, 28};
+    size_t i, length;
+    for (i = 0; i < 2; i++) {
+        size_t size = record_sizes[i];
+        for (length = 0; length <= 5 * size; length++) {
+            int is_whole = length > 0 && length % size == 0;
+            CHECK(convert(size, sheets[i], length, sizeof converted) ==
+                  (is_whole ? 0 : code_of(CONFORMITY_REFUSED_LENGTH, 0)));
+            CHECK(!is_whole ||
+                  same(converted, sheets[1 - i], conformity_converted_length(size, length)));
+        }
+    }
+}
+
+/* The longest sheet without pollutants 5 and 6, which has as many records in either size. */
+static void longest_converted(void)
+{
+    uint8_t report[CONFORMITY_REPORT_SIZE_28] = {0};
+    record_size = CONFORMITY_RECORD_SIZE;
+    longest_sheet();
+    CHECK(report_on(buffer, used, report, sizeof report) == 0);
+    check_converted(report);
+    CHECK(convert(20, buffer, used, 1035) == code_of(CONFORMITY_REFUSED_CONVERTED_OUTPUT, 0));
+}
+
+/* After the sheet's own refusals and before 32, also where no engine is on the sheet yet. */
+static void refused_narrowing(void)
+{
+    size_t length;
+    six_pollutants();
+    CHECK(convert(28, buffer, 28, 20) == 0); /* pollutant 1 alone */
+    for (length = 56; length <= used; length += 28) {
+        CHECK(convert(28, buffer, length, sizeof converted) ==
+              code_of(CONFORMITY_REFUSED_NARROWING, 0));
+        CHECK(convert(28, buffer, length, 0) == code_of(CONFORMITY_REFUSED_NARROWING, 0));
+    }
+    CHECK(convert(20, buffer, used, 0) == code_of(CONFORMITY_REFUSED_LENGTH, 0));
+    CHECK(convert(28, buffer, used - 1, 0) == code_of(CONFORMITY_REFUSED_LENGTH, 0));
+    CHECK(convert(28, buffer, 0, 0) == code_of(CONFORMITY_REFUSED_LENGTH, 0));
+    CHECK(convert(28, buffer, CONFORMITY_SHEET_MAX_28 + 28, 0) ==
+          code_of(CONFORMITY_REFUSED_LENGTH, 0));
+    buffer[used - 1] = 1; /* makes measurement 6 of the last engine too large */
+    CHECK(convert(28, buffer, used, 0) == code_of(CONFORMITY_REFUSED_MEASUREMENT, 5));
+
+    new_sheet_of_28();
+    CHECK(append_pollutant(5, CONFORMITY_PLAN_ATTRIBUTES, 100, 0) == 0);
+    CHECK(convert(28, buffer, used, 19) == code_of(CONFORMITY_REFUSED_NARROWING, 0));
+}
+
+/* Bytes of one size read in the other are refused, and the refusal is the sheet's own. */
+static void size_mistaken(void)
+{
+    uint8_t sheet[7 * CONFORMITY_RECORD_SIZE];
+    memcpy(sheet, EXAMPLE_20, sizeof EXAMPLE_20);
+    memcpy(sheet + 100, EXAMPLE_20[4], 20);
+    memcpy(sheet + 120, EXAMPLE_20[4], 20);
+    CHECK(convert(20, sheet, 140, 0) == code_of(CONFORMITY_REFUSED_CONVERTED_OUTPUT, 0));
+    CHECK(convert(28, sheet, 140, 0) == code_of(CONFORMITY_REFUSED_ZERO, 0));
+    CHECK(convert(20, &EXAMPLE_28[0][0], 140, 0) == code_of(CONFORMITY_REFUSED_KIND, 1));
+}
+
+/* 30 before every other refusal, and nothing written. */
+static void refused_sizes(void)
+{
+    const uint8_t *sheet = &EXAMPLE_20[0][0];
+    uint32_t refused = code_of(CONFORMITY_REFUSED_SIZE, 0);
+    uint8_t bytes[2 * CONFORMITY_RECORD_SIZE_28];
+    size_t i;
+    memset(bytes, 0xa5, sizeof bytes);
+    for (i = 0; i < NO_SIZE_COUNT; i++) {
+        size_t size = NO_SIZES[i];
+        CHECK(conformity_append_sized(size, bytes, sizeof bytes, 0, sheet, 20) == refused);
+        CHECK(conformity_append_sized(size, bytes, sizeof bytes, 0, sheet, 28) == refused);
+        CHECK(conformity_append_sized(size, bytes, 0, SIZE_MAX, sheet, 0) == refused);
+        CHECK(conformity_append_sized(size, NULL, 0, 0, NULL, 0) == refused);
+        CHECK(conformity_report_sized(size, sheet, 100, bytes, sizeof bytes) == refused);
+        CHECK(conformity_report_sized(size, sheet, 0, bytes, 0) == refused);
+        CHECK(conformity_report_sized(size, NULL, 0, NULL, 0) == refused);
+        CHECK(conformity_convert(size, sheet, 100, bytes, sizeof bytes) == refused);
+        CHECK(conformity_convert(size, sheet, 0, bytes, 0) == refused);
+        CHECK(conformity_convert(size, NULL, 0, NULL, 0) == refused);
+    }
+    CHECK(is_untouched(bytes, 0, sizeof bytes));
+}
+
 /* ---- Declared values ---- */
 
 struct declared_case {
@@ -496,17 +952,22 @@ static void declared_values(void)
 int main(void)
 {
     constants();
+    sizes();
     builders();
+    sized_builders();
     readers();
+    sized_readers();
     codes();
-    refused_records();
-    refused_memory();
-    no_memory();
-    longest_sheet();
-    verdicts();
-    referral();
-    corrected_sheet();
-    finer_logarithm();
+    sized_texts();
+    each_way();
+    report_of_six();
+    each_pollutant();
+    converted_example();
+    converted_beginnings();
+    longest_converted();
+    refused_narrowing();
+    size_mistaken();
+    refused_sizes();
     declared_values();
     printf("%u passed, %u failed\n", passed, failed);
     return failed == 0 ? 0 : 1;

@@ -6,8 +6,9 @@
  * are those of Directive 96/1/EC, section 8.1.1.1.3 and Appendices 1 to 3
  * (production), and of COM(97) 77, Appendix 1 (vehicles in service).
  *
- * The caller keeps a SHEET: records of 20 bytes, one after another, in memory
- * of its own. Two functions work on it:
+ * The caller keeps a SHEET: records of 20 bytes, or with six pollutants of 28
+ * bytes (TWO SIZES, below), one after another, in memory of its own. Two functions
+ * work on one of 20-byte records:
  *
  *     conformity_append   adds a record, or refuses it and changes nothing
  *     conformity_report   judges the sheet and writes a report of 20 bytes
@@ -38,26 +39,57 @@
  *
  * After four such engines this prints "pass at 4".
  *
- * A third function is about no sheet: in type approval it compares a declared
- * carbon dioxide value with the tests of one vehicle (Directive 80/1268/EEC,
- * Annex I, 6.5):
+ * TWO SIZES. A record of 20 bytes has measurements of four pollutants, one of 28
+ * bytes of six. All records of a sheet have the same size; the sheet does not say
+ * which, so the caller names it:
+ *
+ *     ..._sized  a function that takes the size, 20 or 28, as its first argument,
+ *                and is otherwise the one without this ending
+ *     ..._28     a constant for 28-byte records
+ *
+ * A function or constant on records, sheets or reports without such an ending is for
+ * 20-byte records; the readers of verdict, ground and engine serve both. The test
+ * above with records of 28 bytes declares its memory by the other constants
+ *
+ *     uint8_t  sheet[CONFORMITY_SHEET_MAX_28];
+ *     uint8_t  record[CONFORMITY_RECORD_SIZE_28];
+ *     uint8_t  report[CONFORMITY_REPORT_SIZE_28];
+ *     uint32_t measured[CONFORMITY_POLLUTANTS_28] = {0, 0, 0, 140, 0, 0};
+ *
+ * and its calls are
+ *
+ *     conformity_pollutant_record_sized(28, record, CONFORMITY_PARTICULATES,
+ *                                       CONFORMITY_PLAN_ATTRIBUTES, 150, 0);
+ *     conformity_engine_record_sized(28, record, 0, measured);
+ *     code = conformity_append_sized(28, sheet, sizeof sheet, used, record, sizeof record);
+ *     code = conformity_report_sized(28, sheet, used, report, sizeof report);
+ *
+ * No bytes are accepted at both sizes: by the wrong one a sheet is refused. A function
+ * carries sheets from one size to the other:
+ *
+ *     conformity_convert  writes the sheet in records of the other size
+ *
+ * One function is about no sheet: in type approval it compares a declared carbon
+ * dioxide value with the tests of one vehicle (Directive 80/1268/EEC, Annex I, 6.5):
  *
  *     conformity_declared asks for another test, or gives the approval value
  *
  * POINTERS. Each pointer to several bytes or numbers is followed by how many they
  * are, and must be valid for that many: readable, and writable where it is not
- * const. Where there are none any pointer will do, also a null one, as an empty
+ * const. The builders and readers below take no lengths: a record or report has as
+ * many bytes as its size. Where there are none any pointer will do, also a null one, as an empty
  * C++ vector's may be. `sum` and `divisor` each point to one number that can be
  * read and written. What a call writes must not overlap anything else that it is
  * given: the record not the buffer, the output not the sheet, `sum` and `divisor`
  * neither each other nor the tests. Nothing else may write to these bytes, or read
  * those that the call writes, until it returns. Within that, every input has a
- * defined answer: any bytes, any numbers, any lengths, any `used`.
+ * defined answer: any bytes, any numbers, any sizes, any lengths, any `used`.
  *
  * THREADS. The library has no state, allocates nothing and keeps no pointer
  * past a call. Calls on separate memory may run at the same time.
  *
- * LANGUAGE. C99 or later, or C++11 or later. Link with libconformity.a.
+ * LANGUAGE. C99 or later, or C++11 or later. Link with libconformity.a. A name that
+ * ends in an underscore is for this header alone.
  */
 #ifndef CONFORMITY_H
 #define CONFORMITY_H
@@ -76,6 +108,13 @@ extern "C" {
 #define CONFORMITY_SHEET_MAX 740  /* bytes of the longest sheet */
 #define CONFORMITY_REPORT_SIZE 20 /* bytes of a report */
 #define CONFORMITY_POLLUTANTS 4   /* measurements in an engine's record */
+
+/* The same for 28-byte records. Memory of these lengths serves both sizes. */
+#define CONFORMITY_RECORD_SIZE_28 28
+#define CONFORMITY_RECORDS_MAX_28 39 /* 6 pollutants, 32 engines and a stop */
+#define CONFORMITY_SHEET_MAX_28 1092
+#define CONFORMITY_REPORT_SIZE_28 28
+#define CONFORMITY_POLLUTANTS_28 6
 
 #define CONFORMITY_VALUE_MAX 9999999     /* greatest limit, measurement, CO2 value; least 1 */
 #define CONFORMITY_DEVIATION_MAX 4000000 /* greatest deviation in plan 1; least 1 */
@@ -100,7 +139,9 @@ enum conformity_pollutant {
     CONFORMITY_CARBON_MONOXIDE = 1,
     CONFORMITY_HYDROCARBONS = 2,
     CONFORMITY_NITROGEN_OXIDES = 3,
-    CONFORMITY_PARTICULATES = 4
+    CONFORMITY_PARTICULATES = 4,
+    CONFORMITY_POLLUTANT_5 = 5, /* these two in 28-byte records alone, */
+    CONFORMITY_POLLUTANT_6 = 6  /* for limits that name more than four */
 };
 
 /* The plan decides at the 3rd engine at the earliest, and at its last row at the latest. */
@@ -147,17 +188,19 @@ enum conformity_decision {
  *
  * where the record is counted from 0 and is 0 for refusal 1 and from 13 on, which
  * name none. A sheet is refused for its first faulty record, and for the lowest
- * number that applies to it. No refusal has the numbers 16 to 19.
+ * number that applies to it. No refusal has the numbers 16 to 19 and 23 to 29.
+ *
+ * A number in brackets stands, for 28-byte records, in place of the one before it.
  */
 enum conformity_refusal {
-    /* The sheet is empty, not a whole number of records, or longer than 740 bytes. */
+    /* The sheet is empty, not a whole number of records, or longer than 740 (1,092) bytes. */
     CONFORMITY_REFUSED_LENGTH = 1,
     /* The record's kind is not 1, 2 or 3. */
     CONFORMITY_REFUSED_KIND = 2,
     /* The first record is no pollutant, a pollutant follows another kind, or a record follows the
        stop. */
     CONFORMITY_REFUSED_ORDER = 3,
-    /* The pollutant number is not 1 to 4, or not above the one before. */
+    /* The pollutant number is not 1 to 4 (6), or not above the one before. */
     CONFORMITY_REFUSED_POLLUTANT = 4,
     /* The plan is not 1 to 5, or unlike the first pollutant's. */
     CONFORMITY_REFUSED_PLAN = 5,
@@ -175,18 +218,25 @@ enum conformity_refusal {
     CONFORMITY_REFUSED_STOP = 11,
     /* A byte that must be zero is not; no record built by the functions below has one. */
     CONFORMITY_REFUSED_ZERO = 12,
-    /* append: fewer than 20 bytes of the buffer are left after `used`, or `used` is beyond it. */
+    /* append: fewer than 20 (28) bytes of the buffer are left after `used`, or `used` is beyond
+       it. */
     CONFORMITY_REFUSED_BUFFER = 13,
-    /* append: the record is not 20 bytes long. */
+    /* append: the record is not 20 (28) bytes long. */
     CONFORMITY_REFUSED_RECORD = 14,
-    /* report: the output is shorter than 20 bytes. */
+    /* report: the output is shorter than 20 (28) bytes. */
     CONFORMITY_REFUSED_OUTPUT = 15,
     /* declared: there are no tests, or more than 3. */
     CONFORMITY_REFUSED_TESTS = 20,
     /* declared: the declared value or a test is not 1 to 9,999,999. */
     CONFORMITY_REFUSED_VALUE = 21,
     /* declared: a test follows those by which the declared value stands. */
-    CONFORMITY_REFUSED_LATE_TEST = 22
+    CONFORMITY_REFUSED_LATE_TEST = 22,
+    /* append_sized, report_sized, convert: the size is not 20 or 28. */
+    CONFORMITY_REFUSED_SIZE = 30,
+    /* convert, of a sheet of 28-byte records: it declares pollutant 5 or 6. */
+    CONFORMITY_REFUSED_NARROWING = 31,
+    /* convert: the output is shorter than the converted sheet. */
+    CONFORMITY_REFUSED_CONVERTED_OUTPUT = 32
 };
 
 /* ---- The library -------------------------------------------------------- */
@@ -225,6 +275,34 @@ uint32_t conformity_report(const uint8_t *sheet, size_t sheet_length,
                            uint8_t *output, size_t output_length);
 
 /*
+ * As conformity_append and conformity_report, with `size` bytes where they say 20.
+ *
+ * The size is 20 or 28. Any other is refused with 30, before all that they refuse.
+ */
+uint32_t conformity_append_sized(size_t size, uint8_t *buffer, size_t buffer_length, size_t used,
+                                 const uint8_t *record, size_t record_length);
+uint32_t conformity_report_sized(size_t size, const uint8_t *sheet, size_t sheet_length,
+                                 uint8_t *output, size_t output_length);
+
+/*
+ * Writes the sheet, of records of `size` bytes, to the start of the output in
+ * records of the other size: with 8 zeros behind each record of 20 bytes, without
+ * the last 8 bytes of each of 28. The converted sheet has the same verdict, ground,
+ * engine and decisions; converted back, it is the sheet again.
+ *
+ * Returns 0 when it was written: conformity_converted_length bytes, for which
+ * CONFORMITY_SHEET_MAX_28 are always room enough. Bytes of the output behind them
+ * have not changed. Otherwise no byte has changed, and the refusal is the first of
+ * these:
+ *     30       the size is not 20 or 28
+ *     1 to 12  the sheet is refused
+ *     31       from 28 to 20 bytes: the sheet declares pollutant 5 or 6
+ *     32       the output is shorter than the converted sheet
+ */
+uint32_t conformity_convert(size_t size, const uint8_t *sheet, size_t sheet_length,
+                            uint8_t *output, size_t output_length);
+
+/*
  * Compares the declared carbon dioxide value of a type with the tests of one
  * vehicle, `count` of them in the order in which they were run. All values are
  * whole thousandths of g/km, 1 to CONFORMITY_VALUE_MAX.
@@ -247,6 +325,32 @@ uint32_t conformity_report(const uint8_t *sheet, size_t sheet_length,
 uint32_t conformity_declared(uint32_t declared, const uint32_t *tests, size_t count,
                              uint32_t *sum, uint32_t *divisor);
 
+/* ---- The two sizes ------------------------------------------------------ */
+
+/* The measurements in an engine's record of this size; 0 where the size is not 20 or 28. */
+static inline uint32_t conformity_pollutants(size_t size)
+{
+    return size == CONFORMITY_RECORD_SIZE      ? CONFORMITY_POLLUTANTS
+           : size == CONFORMITY_RECORD_SIZE_28 ? CONFORMITY_POLLUTANTS_28
+                                               : 0;
+}
+
+/* Of the sizes 20 and 28 the one that this is not; 0 where the size is neither. */
+static inline size_t conformity_other_size(size_t size)
+{
+    return size == CONFORMITY_RECORD_SIZE      ? CONFORMITY_RECORD_SIZE_28
+           : size == CONFORMITY_RECORD_SIZE_28 ? CONFORMITY_RECORD_SIZE
+                                               : 0;
+}
+
+/* The bytes that conformity_convert writes for a sheet of this size and length; 0 where the size
+   is not 20 or 28. */
+static inline size_t conformity_converted_length(size_t size, size_t sheet_length)
+{
+    size_t other = conformity_other_size(size);
+    return other == 0 ? 0 : sheet_length / size * other;
+}
+
 /* ---- Reading a return code ---------------------------------------------- */
 
 /* The refusal's number (enum conformity_refusal), or 0 for success. */
@@ -261,7 +365,8 @@ static inline uint32_t conformity_refusal_record(uint32_t code)
     return code & 0xffu;
 }
 
-/* A refusal's meaning in a sentence, for a message; never null. */
+/* A refusal's meaning in a sentence, for a message; never null. Of a call on 28-byte records, see
+   conformity_refusal_text_sized. */
 static inline const char *conformity_refusal_text(uint32_t number)
 {
     switch (number) {
@@ -305,17 +410,44 @@ static inline const char *conformity_refusal_text(uint32_t number)
         return "the declared value or a test is not 1 to 9999999";
     case CONFORMITY_REFUSED_LATE_TEST:
         return "a test follows those by which the declared value stands";
+    case CONFORMITY_REFUSED_SIZE:
+        return "the record size is not 20 or 28";
+    case CONFORMITY_REFUSED_NARROWING:
+        return "the sheet declares pollutant 5 or 6, which records of 20 bytes have no place for";
+    case CONFORMITY_REFUSED_CONVERTED_OUTPUT:
+        return "the output is shorter than the converted sheet";
     default:
         return "no refusal has this number";
     }
 }
 
+/* The same for a call on records of this size, whose numbers are in some of the sentences. */
+static inline const char *conformity_refusal_text_sized(size_t size, uint32_t number)
+{
+    if (size == CONFORMITY_RECORD_SIZE_28) {
+        switch (number) {
+        case CONFORMITY_REFUSED_LENGTH:
+            return "the sheet is empty, not a whole number of records, or longer than 1092 bytes";
+        case CONFORMITY_REFUSED_POLLUTANT:
+            return "the pollutant number is not 1 to 6, or not above the one before";
+        case CONFORMITY_REFUSED_RECORD:
+            return "the record is not 28 bytes long";
+        case CONFORMITY_REFUSED_OUTPUT:
+            return "the output is shorter than 28 bytes";
+        default:
+            break;
+        }
+    }
+    return conformity_refusal_text(number);
+}
+
 /* ---- Building records --------------------------------------------------- */
 
 /*
- * A builder writes all 20 bytes and checks nothing: conformity_append does. A
- * number too large for its field is written as the field's greatest, which is
- * refused, and never cut down to a smaller one that might be accepted.
+ * A builder writes every byte of the record and checks nothing: conformity_append
+ * does. A number too large for its field is written as the field's greatest, which
+ * is refused, and never cut down to a smaller one that might be accepted. For a size
+ * that is not 20 or 28 nothing is written, and the library refuses the size.
  */
 
 /* For the builders: `number`, or `greatest` where it is larger. */
@@ -334,17 +466,33 @@ static inline void conformity_put_(uint8_t *field, size_t width, uint32_t number
     }
 }
 
+/* For the builders: the kind, and zeros behind it; answers 0, and writes nothing, where the size is
+   not 20 or 28. */
+static inline int conformity_begin_(size_t size, uint8_t *record, uint8_t kind)
+{
+    size_t i;
+    if (conformity_pollutants(size) == 0) {
+        return 0;
+    }
+    record[0] = kind;
+    for (i = 1; i < size; i++) {
+        record[i] = 0;
+    }
+    return 1;
+}
+
 /*
  * Testing stopped by the manufacturer: fails a series that is undecided. Not in
  * plan 4.
  */
+static inline void conformity_stop_record_sized(size_t size, uint8_t *record)
+{
+    conformity_begin_(size, record, CONFORMITY_KIND_STOP);
+}
+
 static inline void conformity_stop_record(uint8_t record[CONFORMITY_RECORD_SIZE])
 {
-    size_t i;
-    for (i = 0; i < CONFORMITY_RECORD_SIZE; i++) {
-        record[i] = 0;
-    }
-    record[0] = CONFORMITY_KIND_STOP;
+    conformity_stop_record_sized(CONFORMITY_RECORD_SIZE, record);
 }
 
 /*
@@ -355,16 +503,24 @@ static inline void conformity_stop_record(uint8_t record[CONFORMITY_RECORD_SIZE]
  *     deviation  plan 1: the deviation s of the natural logarithms, in millionths,
  *                1 to CONFORMITY_DEVIATION_MAX; 0 in the other plans
  */
+static inline void conformity_pollutant_record_sized(size_t size, uint8_t *record,
+                                                     uint32_t pollutant, uint32_t plan,
+                                                     uint32_t limit, uint32_t deviation)
+{
+    if (conformity_begin_(size, record, CONFORMITY_KIND_POLLUTANT)) {
+        conformity_put_(record + 1, 1, conformity_at_most_(pollutant, 0xffu));
+        conformity_put_(record + 2, 1, conformity_at_most_(plan, 0xffu));
+        conformity_put_(record + 4, 4, limit);
+        conformity_put_(record + 8, 4, deviation);
+    }
+}
+
 static inline void conformity_pollutant_record(uint8_t record[CONFORMITY_RECORD_SIZE],
                                                uint32_t pollutant, uint32_t plan,
                                                uint32_t limit, uint32_t deviation)
 {
-    conformity_stop_record(record); /* for its zeros */
-    record[0] = CONFORMITY_KIND_POLLUTANT;
-    conformity_put_(record + 1, 1, conformity_at_most_(pollutant, 0xffu));
-    conformity_put_(record + 2, 1, conformity_at_most_(plan, 0xffu));
-    conformity_put_(record + 4, 4, limit);
-    conformity_put_(record + 8, 4, deviation);
+    conformity_pollutant_record_sized(CONFORMITY_RECORD_SIZE, record, pollutant, plan, limit,
+                                      deviation);
 }
 
 /*
@@ -374,24 +530,33 @@ static inline void conformity_pollutant_record(uint8_t record[CONFORMITY_RECORD_
  *                   numbers. 0 for every other vehicle and in the other plans. A
  *                   vehicle is a gross emitter if a measurement is above 3/2 of
  *                   its limit
- *     measurements  in thousandths of the limit's unit, 1 to CONFORMITY_VALUE_MAX,
- *                   carbon monoxide first: measurements[pollutant - 1]; 0 for a
- *                   pollutant that the sheet does not declare
+ *     measurements  conformity_pollutants(size) of them, in thousandths of the
+ *                   limit's unit, 1 to CONFORMITY_VALUE_MAX, carbon monoxide first:
+ *                   measurements[pollutant - 1]; 0 for a pollutant that the sheet
+ *                   does not declare
  */
+static inline void conformity_engine_record_sized(size_t size, uint8_t *record, uint32_t cause,
+                                                  const uint32_t *measurements)
+{
+    uint32_t i;
+    if (conformity_begin_(size, record, CONFORMITY_KIND_ENGINE)) {
+        conformity_put_(record + 2, 2, conformity_at_most_(cause, 0xffffu));
+        for (i = 0; i < conformity_pollutants(size); i++) {
+            conformity_put_(record + 4 + 4 * i, 4, measurements[i]);
+        }
+    }
+}
+
 static inline void conformity_engine_record(uint8_t record[CONFORMITY_RECORD_SIZE],
                                             uint32_t cause,
                                             const uint32_t measurements[CONFORMITY_POLLUTANTS])
 {
-    size_t i;
-    record[0] = CONFORMITY_KIND_ENGINE;
-    record[1] = 0;
-    conformity_put_(record + 2, 2, conformity_at_most_(cause, 0xffffu));
-    for (i = 0; i < CONFORMITY_POLLUTANTS; i++) {
-        conformity_put_(record + 4 + 4 * i, 4, measurements[i]);
-    }
+    conformity_engine_record_sized(CONFORMITY_RECORD_SIZE, record, cause, measurements);
 }
 
 /* ---- Reading a report --------------------------------------------------- */
+
+/* The first four bytes are the same in reports of either size, and so are their readers. */
 
 /* Whether these bytes bear the mark of a report (1) or not (0). */
 static inline int conformity_is_report(const uint8_t report[CONFORMITY_REPORT_SIZE])
@@ -417,25 +582,38 @@ static inline uint32_t conformity_report_engine(const uint8_t report[CONFORMITY_
     return report[3];
 }
 
-/* For the readers: whether a report has a place for this pollutant. */
-static inline int conformity_has_pollutant_(uint32_t pollutant)
+/* For the readers: whether a report of this size has a place for the pollutant. */
+static inline int conformity_has_pollutant_(size_t size, uint32_t pollutant)
 {
-    return pollutant >= 1 && pollutant <= CONFORMITY_POLLUTANTS;
+    return pollutant >= 1 && pollutant <= conformity_pollutants(size);
 }
 
-/* A pollutant's decision, enum conformity_decision; open for a number that is no pollutant's. */
+/* A pollutant's decision, enum conformity_decision; open for a number that is no pollutant's, and
+   for a size that is not 20 or 28. */
+static inline uint32_t conformity_report_decision_sized(size_t size, const uint8_t *report,
+                                                        uint32_t pollutant)
+{
+    return conformity_has_pollutant_(size, pollutant) ? report[2 + 2 * pollutant] : 0;
+}
+
 static inline uint32_t conformity_report_decision(const uint8_t report[CONFORMITY_REPORT_SIZE],
                                                   uint32_t pollutant)
 {
-    return conformity_has_pollutant_(pollutant) ? report[2 + 2 * pollutant] : 0;
+    return conformity_report_decision_sized(CONFORMITY_REPORT_SIZE, report, pollutant);
 }
 
 /* The engine, counted from 1, at which the pollutant was decided; 0 where it is open. */
+static inline uint32_t conformity_report_decision_engine_sized(size_t size, const uint8_t *report,
+                                                               uint32_t pollutant)
+{
+    return conformity_has_pollutant_(size, pollutant) ? report[3 + 2 * pollutant] : 0;
+}
+
 static inline uint32_t
 conformity_report_decision_engine(const uint8_t report[CONFORMITY_REPORT_SIZE],
                                   uint32_t pollutant)
 {
-    return conformity_has_pollutant_(pollutant) ? report[3 + 2 * pollutant] : 0;
+    return conformity_report_decision_engine_sized(CONFORMITY_REPORT_SIZE, report, pollutant);
 }
 
 #ifdef __cplusplus

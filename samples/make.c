@@ -1,6 +1,7 @@
 /* Writes the sample sheets, the lines that the documents give for each and, for a refused one, what `verdict` says of it
-   to people: NAME.sheet, NAME.lines and NAME.why, into the folder named. The lines are typed here from the documents and
-   not computed; a refusal's sentence is that of the header, with which the program's has to agree. */
+   to people: NAME.sheet, NAME.lines and NAME.why, into the folder named; sheets of 28-byte records, which `verdict` does not
+   read, and their lines are NAME.sheet28 and NAME.lines28. The lines are typed here from the documents and not computed; a
+   refusal's sentence is that of the header, with which the program's has to agree. */
 #include <conformity.h>
 
 #include <stdint.h>
@@ -11,6 +12,7 @@
 static const char *folder;
 static uint8_t sheet[8192];
 static size_t length;
+static size_t record_size = 20;
 
 static void byte(uint32_t x) {
     sheet[length++] = (uint8_t)x;
@@ -23,6 +25,11 @@ static void four(uint32_t x) {
     byte(x >> 24);
 }
 
+/* Zeros up to the end of the record. */
+static void fill(void) {
+    while (length % record_size != 0) byte(0);
+}
+
 static void pollutant(uint32_t number, uint32_t plan, uint32_t limit, uint32_t deviation) {
     byte(1);
     byte(number);
@@ -30,11 +37,10 @@ static void pollutant(uint32_t number, uint32_t plan, uint32_t limit, uint32_t d
     byte(0);
     four(limit);
     four(deviation);
-    four(0);
-    four(0);
+    fill();
 }
 
-static void engine(uint32_t cause, uint32_t co, uint32_t hc, uint32_t nox, uint32_t pm) {
+static void four_measurements(uint32_t cause, uint32_t co, uint32_t hc, uint32_t nox, uint32_t pm) {
     byte(2);
     byte(0);
     byte(cause);
@@ -43,6 +49,18 @@ static void engine(uint32_t cause, uint32_t co, uint32_t hc, uint32_t nox, uint3
     four(hc);
     four(nox);
     four(pm);
+}
+
+static void engine(uint32_t cause, uint32_t co, uint32_t hc, uint32_t nox, uint32_t pm) {
+    four_measurements(cause, co, hc, nox, pm);
+    fill();
+}
+
+/* In a 28-byte record. */
+static void engine_of_six(uint32_t cause, uint32_t co, uint32_t hc, uint32_t nox, uint32_t pm, uint32_t fifth, uint32_t sixth) {
+    four_measurements(cause, co, hc, nox, pm);
+    four(fifth);
+    four(sixth);
 }
 
 /* Engines measured for pollutant 1 alone. */
@@ -60,7 +78,7 @@ static void pairs(int count) {
 
 static void stop(void) {
     byte(3);
-    while (length % 20 != 0) byte(0);
+    fill();
 }
 
 static void put(const char *name, const char *ending, const void *bytes, size_t n) {
@@ -75,22 +93,28 @@ static void put(const char *name, const char *ending, const void *bytes, size_t 
 
 /* The records so far are a sheet, and these its lines. */
 static void sample(const char *name, const char *lines) {
-    put(name, "sheet", sheet, length);
-    put(name, "lines", lines, strlen(lines));
+    put(name, record_size == 20 ? "sheet" : "sheet28", sheet, length);
+    put(name, record_size == 20 ? "lines" : "lines28", lines, strlen(lines));
     length = 0;
 }
 
-/* The records so far are refused with a number, at a record that is what `what` says; NULL where none is named. */
-static void refused(const char *name, unsigned number, unsigned record, const char *what) {
-    char lines[32], why[256];
-    const char *text = conformity_refusal_text(number);
+/* The records so far are refused with a number, at a record. */
+static void refused_at(const char *name, unsigned number, unsigned record) {
+    char lines[32];
     snprintf(lines, sizeof lines, "refused %u %u\n", number, record);
+    sample(name, lines);
+}
+
+/* The same, and the record is what `what` says; NULL where none is named. */
+static void refused(const char *name, unsigned number, unsigned record, const char *what) {
+    char why[256];
+    const char *text = conformity_refusal_text(number);
     if (what == NULL)
         snprintf(why, sizeof why, "verdict: %s\n", text);
     else
         snprintf(why, sizeof why, "verdict: record %u (%s): %s\n", record, what, text);
     put(name, "why", why, strlen(why));
-    sample(name, lines);
+    refused_at(name, number, record);
 }
 
 /* The lines of a sheet of pollutant 1 that is decided, or not, at row 3. */
@@ -105,12 +129,15 @@ static void three(const char *name, uint32_t plan, uint32_t limit, uint32_t devi
     sample(name, lines);
 }
 
-/* "Series that stand on a line" */
-static void on_a_line(void) {
+/* Document 01's own sheet. */
+static void example(void) {
     pollutant(4, 3, 150, 0);
     for (int i = 0; i < 4; i++) engine(0, 0, 0, 0, 140);
     sample("example", "pass 4 1\n4 pass 4\n");
+}
 
+/* "Series that stand on a line" */
+static void on_a_line(void) {
     three("known-625020", 1, 4000, 625020, 2000, PASS_AT_3);
     three("known-625021", 1, 4000, 625021, 2000, ANOTHER_AT_3);
     three("known-440186", 1, 4000, 440186, 8000, FAIL_AT_3);
@@ -303,16 +330,91 @@ static void refusals(void) {
     refused("refused-12", 12, 1, "stop");
 }
 
+/* Document 02, F-10: records of 28 bytes. */
+static void six_pollutants(void) {
+    pollutant(1, 3, 100, 0);
+    pollutant(6, 3, 50, 0);
+    for (int i = 0; i < 4; i++) engine_of_six(0, 90, 0, 0, 0, 0, 50);
+    sample("six-pollutants", "pass 4 1\n1 pass 4\n6 pass 4\n");
+
+    pollutant(5, 3, 150, 0);
+    sample("no-engine", "another 0 0\n5 open 0\n");
+
+    /* One over of 4 keeps pollutant 6 open, and with it the series. */
+    pollutant(1, 3, 150, 0);
+    pollutant(6, 3, 150, 0);
+    engine_of_six(0, 150, 0, 0, 0, 0, 151);
+    for (int i = 0; i < 3; i++) engine_of_six(0, 150, 0, 0, 0, 0, 150);
+    sample("sixth-open", "another 4 0\n1 pass 4\n6 open 0\n");
+
+    /* None over passes at 4; of pollutant 5, two, three and four over of 3, 4 and 5 fail at 5; one over is open. */
+    pollutant(1, 3, 150, 0);
+    pollutant(5, 3, 150, 0);
+    pollutant(6, 3, 150, 0);
+    engine_of_six(0, 150, 0, 0, 0, 150, 151);
+    for (int i = 0; i < 4; i++) engine_of_six(0, 150, 0, 0, 0, 151, 150);
+    sample("fifth-fails", "fail 5 1\n1 pass 4\n5 fail 5\n6 open 0\n");
+
+    /* Two gross emitters of equal cause, one by pollutant 5 and one by pollutant 6; 1500 makes none. */
+    pollutant(1, 4, 1000, 0);
+    pollutant(5, 4, 1000, 0);
+    pollutant(6, 4, 1000, 0);
+    engine_of_six(7, 900, 0, 0, 0, 1501, 900);
+    engine_of_six(7, 900, 0, 0, 0, 900, 1501);
+    engine_of_six(0, 900, 0, 0, 0, 1500, 1500);
+    sample("gross-by-5-and-6", "fail 3 2\n1 open 0\n5 open 0\n6 open 0\n");
+
+    /* The longest sheet, 39 records, decided as the one of 20-byte records is. */
+    for (uint32_t p = 1; p <= 6; p++) pollutant(p, 1, 1000, 1);
+    for (int n = 1; n <= 32; n++) engine_of_six(0, 1000, 1000, 1000, 1000, 1000, 1000);
+    stop();
+    sample("longest", "pass 32 1\n1 pass 32\n2 pass 32\n3 pass 32\n4 pass 32\n5 pass 32\n6 pass 32\n");
+}
+
+/* Refusals in which the size counts: of 40 records, but not of 39, the number itself is refused. */
+static void refusals_of_28(void) {
+    refused_at("refused-01-no-bytes", 1, 0);
+    pollutant(1, 1, 4000, 625020);
+    length -= 8;
+    refused_at("refused-01-20-bytes", 1, 0);
+    pollutant(1, 1, 4000, 625020);
+    measured(39, 2000);
+    refused_at("refused-01-40-records", 1, 0);
+    pollutant(7, 3, 150, 0);
+    refused_at("refused-04", 4, 0);
+    pollutant(5, 3, 150, 0);
+    engine_of_six(0, 0, 0, 0, 0, 150, 1);
+    refused_at("refused-08", 8, 1);
+    pollutant(6, 4, 1000, 0);
+    engine_of_six(0, 0, 0, 0, 0, 0, 1501);
+    refused_at("refused-09", 9, 1);
+    pollutant(1, 1, 4000, 625020);
+    measured(38, 2000);
+    refused_at("refused-10-39-records", 10, 33);
+    pollutant(1, 3, 150, 0);
+    sheet[27] = 1;
+    refused_at("refused-12-pollutant", 12, 0);
+    pollutant(1, 3, 150, 0);
+    stop();
+    sheet[28 + 27] = 1;
+    refused_at("refused-12-stop", 12, 1);
+}
+
 int main(int count, char **words) {
     if (count != 2) {
         fprintf(stderr, "usage: %s FOLDER\n", words[0]);
         return 1;
     }
     folder = words[1];
+    example();
     on_a_line();
     corrected();
     finer();
     others();
     refusals();
+    record_size = 28;
+    example();
+    six_pollutants();
+    refusals_of_28();
     return 0;
 }

@@ -1,8 +1,8 @@
-//! Sheets to time on: full ones, which no row decides before the last, and typical ones, decided
-//! at 3 to 7 engines.
+//! Sheets to time on, in records of either size: full ones, which no row decides before the last,
+//! and typical ones, decided at 3 to 7 engines.
 
 use random::Random;
-use second::{judge, Document, Document01, Ground, Verdict, RECORD};
+use second::{judge, Document, Document01, Ground, Judgement, Verdict, FOUR_POLLUTANTS};
 
 /// One pollutant and what was measured of it.
 struct Series {
@@ -11,28 +11,36 @@ struct Series {
     measurements: Vec<u32>,
 }
 
-/// Sheets of four pollutants and `engines` engines, every pollutant open until the last of them.
-pub fn full(plan: u8, engines: usize, count: usize) -> Vec<Vec<u8>> {
+/// Sheets of every pollutant of the size and `engines` engines, every pollutant open until the last
+/// of them.
+pub fn full(size: usize, plan: u8, engines: usize, count: usize) -> Vec<Vec<u8>> {
     let mut random = Random::new(0xF0 + u64::from(plan));
-    let four = |random: &mut Random| [(); 4].map(|()| open_series(plan, engines, random));
-    (0..count)
-        .map(|_| sheet(plan, &four(&mut random)))
-        .collect()
+    let mut all = || -> Vec<Series> {
+        let pollutants = 0..Document01.pollutants(size);
+        pollutants
+            .map(|_| open_series(plan, engines, &mut random))
+            .collect()
+    };
+    (0..count).map(|_| sheet(size, plan, &all())).collect()
 }
 
 /// Sheets of one pollutant that end with the engine which decides them, the 3rd to the 7th.
-pub fn typical(plan: u8, count: usize) -> Vec<Vec<u8>> {
+pub fn typical(size: usize, plan: u8, count: usize) -> Vec<Vec<u8>> {
     let mut random = Random::new(0x70 + u64::from(plan));
-    let sheets = std::iter::repeat_with(|| decided_sheet(plan, &mut random));
-    sheets.flatten().take(count).collect()
+    let series = std::iter::repeat_with(|| decided_series(plan, &mut random));
+    let series = series.flatten().take(count);
+    series
+        .map(|series| sheet(size, plan, std::slice::from_ref(&series)))
+        .collect()
 }
 
-/// A sheet of the most bytes whose last record is refused, so that all are checked, none judged.
+/// A sheet of 37 records of 20 bytes whose last is refused, so that all are checked, none judged.
 pub fn refused_at_the_end() -> Vec<u8> {
-    let mut sheet = full(1, 32, 1).remove(0);
-    sheet.resize(37 * RECORD, 0);
-    sheet[36 * RECORD] = 3;
-    sheet[37 * RECORD - 1] = 1;
+    let mut sheet = full(FOUR_POLLUTANTS, 1, 32, 1).remove(0);
+    let stop = sheet.len();
+    sheet.resize(stop + FOUR_POLLUTANTS, 0);
+    sheet[stop] = 3;
+    sheet[stop + FOUR_POLLUTANTS - 1] = 1;
     sheet
 }
 
@@ -46,14 +54,12 @@ fn open_series(plan: u8, engines: usize, random: &mut Random) -> Series {
     }
 }
 
-fn decided_sheet(plan: u8, random: &mut Random) -> Option<Vec<u8>> {
+fn decided_series(plan: u8, random: &mut Random) -> Option<Series> {
     let mut series = Series::new(plan, random);
     for n in 1..=7 {
         series.measure(plan, random);
-        let sheet = sheet(plan, std::slice::from_ref(&series));
-        let judgement = judge(&Document01, &sheet).expect("an accepted sheet");
-        if n >= 3 && judgement.ground == Ground::Row {
-            return Some(sheet);
+        if n >= 3 && series.judged(plan).ground == Ground::Row {
+            return Some(series);
         }
     }
     None
@@ -73,15 +79,19 @@ impl Series {
     fn grow_undecided(&mut self, plan: u8, random: &mut Random) -> bool {
         (0..50).any(|_| {
             self.measure(plan, random);
-            let sheet = sheet(plan, std::slice::from_ref(self));
-            let judgement = judge(&Document01, &sheet).expect("an accepted sheet");
             let last = self.measurements.len() == Document01.last_row(plan);
-            let kept = last || judgement.verdict == Verdict::Another;
+            let kept = last || self.judged(plan).verdict == Verdict::Another;
             if !kept {
                 self.measurements.pop();
             }
             kept
         })
+    }
+
+    /// Alone on a sheet.
+    fn judged(&self, plan: u8) -> Judgement {
+        let sheet = sheet(FOUR_POLLUTANTS, plan, std::slice::from_ref(self));
+        judge(&Document01, FOUR_POLLUTANTS, &sheet).expect("an accepted sheet")
     }
 
     /// No measurement is a gross emitter's.
@@ -97,29 +107,19 @@ impl Series {
 }
 
 /// The series as pollutants 1, 2, .. of one sheet.
-fn sheet(plan: u8, series: &[Series]) -> Vec<u8> {
-    let mut sheet = Vec::with_capacity(37 * RECORD);
-    for (
-        index,
-        Series {
-            limit, deviation, ..
-        },
-    ) in series.iter().enumerate()
-    {
-        sheet.extend([1, index as u8 + 1, plan, 0]);
-        sheet.extend(limit.to_le_bytes());
-        sheet.extend(deviation.to_le_bytes());
-        sheet.extend([0; 8]);
+fn sheet(size: usize, plan: u8, series: &[Series]) -> Vec<u8> {
+    let mut sheet = Vec::with_capacity(Document01.longest_sheet(size));
+    for (number, series) in (1..).zip(series) {
+        sheet.extend([1, number, plan, 0]);
+        sheet.extend(series.limit.to_le_bytes());
+        sheet.extend(series.deviation.to_le_bytes());
+        sheet.resize(sheet.len().next_multiple_of(size), 0);
     }
     for n in 0..series[0].measurements.len() {
-        let start = sheet.len();
+        let measurements = series.iter().map(|series| series.measurements[n]);
         sheet.extend([2, 0, 0, 0]);
-        sheet.extend(
-            series
-                .iter()
-                .flat_map(|series| series.measurements[n].to_le_bytes()),
-        );
-        sheet.resize(start + RECORD, 0);
+        sheet.extend(measurements.flat_map(u32::to_le_bytes));
+        sheet.resize(sheet.len().next_multiple_of(size), 0);
     }
     sheet
 }

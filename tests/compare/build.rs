@@ -4,8 +4,18 @@
 fn main() {
     seal::link(
         "conformity",
-        &["conformity_append", "conformity_report"],
+        &[
+            "conformity_append",
+            "conformity_append_sized",
+            "conformity_report",
+            "conformity_report_sized",
+        ],
         "compare",
+    );
+    seal::link(
+        "conformity",
+        &["conformity_convert", "conformity_report_sized"],
+        "compare_convert",
     );
     seal::link("conformity", &["conformity_declared"], "compare_declared");
     seal::link(

@@ -3,8 +3,10 @@
 
 use bench::sheets;
 use bench::timing::{against, time};
-use entries::{conformity_append, conformity_report};
-use second::{append, report, Document, Document01, Refusal, PLANS, RECORD, REPORT};
+use entries::{conformity_append, conformity_append_sized, conformity_convert};
+use entries::{conformity_report, conformity_report_sized};
+use second::{append, convert, report, Document, Document01, Refusal};
+use second::{FOUR_POLLUTANTS, LONGEST_REPORT, PLANS, SIX_POLLUTANTS, SIZES};
 use std::ffi::c_void;
 use std::hint::black_box;
 
@@ -26,16 +28,30 @@ const BY_SECOND: f64 = 0.7;
 const PART_BY_SECOND: f64 = 1.0;
 const GROWTH: f64 = 4.5;
 
-type Report = fn(&[u8], &mut [u8; REPORT]) -> u32;
+/// Full sheets of six pollutants by those of four, which have two thirds as many measurements.
+const SIX_BY_FOUR: f64 = 1.6;
+
+/// The room for a report of either size.
+type Output = [u8; LONGEST_REPORT];
+type Report = fn(&[u8], &mut Output) -> u32;
 type Append = fn(&mut [u8], usize, &[u8]) -> u32;
+type Convert = fn(&[u8], &mut [u8]) -> u32;
 
 // SAFETY of the calls below: every pointer is that of a slice, and its length goes with it.
-fn library_report(sheet: &[u8], output: &mut [u8; REPORT]) -> u32 {
-    unsafe { conformity_report(sheet.as_ptr(), sheet.len(), output.as_mut_ptr(), REPORT) }
+fn library_report(sheet: &[u8], output: &mut Output) -> u32 {
+    let place = output.as_mut_ptr();
+    unsafe { conformity_report(sheet.as_ptr(), sheet.len(), place, FOUR_POLLUTANTS) }
 }
 
-fn doubles(sheet: &[u8], output: &mut [u8; REPORT]) -> u32 {
-    unsafe { doubles_report(sheet.as_ptr(), sheet.len(), output.as_mut_ptr(), REPORT) }
+/// The entry that names the size.
+fn library_report_by<const SIZE: usize>(sheet: &[u8], output: &mut Output) -> u32 {
+    let place = output.as_mut_ptr();
+    unsafe { conformity_report_sized(SIZE, sheet.as_ptr(), sheet.len(), place, SIZE) }
+}
+
+fn doubles(sheet: &[u8], output: &mut Output) -> u32 {
+    let place = output.as_mut_ptr();
+    unsafe { doubles_report(sheet.as_ptr(), sheet.len(), place, FOUR_POLLUTANTS) }
 }
 
 fn library_append(buffer: &mut [u8], used: usize, record: &[u8]) -> u32 {
@@ -43,23 +59,41 @@ fn library_append(buffer: &mut [u8], used: usize, record: &[u8]) -> u32 {
     unsafe { conformity_append(place, length, used, record.as_ptr(), record.len()) }
 }
 
-#[inline(never)]
-fn second_report(sheet: &[u8], output: &mut [u8; REPORT]) -> u32 {
-    report(&Document01, sheet, output)
-        .err()
-        .map_or(0, Refusal::code)
+/// The entry that names the size.
+fn library_append_by<const SIZE: usize>(buffer: &mut [u8], used: usize, record: &[u8]) -> u32 {
+    let (place, length) = (buffer.as_mut_ptr(), buffer.len());
+    let (record, record_length) = (record.as_ptr(), record.len());
+    unsafe { conformity_append_sized(SIZE, place, length, used, record, record_length) }
+}
+
+fn library_convert_from<const SIZE: usize>(sheet: &[u8], output: &mut [u8]) -> u32 {
+    let (place, length) = (output.as_mut_ptr(), output.len());
+    unsafe { conformity_convert(SIZE, sheet.as_ptr(), sheet.len(), place, length) }
 }
 
 #[inline(never)]
-fn second_append(buffer: &mut [u8], used: usize, record: &[u8]) -> u32 {
-    append(&Document01, buffer, used, record)
-        .err()
-        .map_or(0, Refusal::code)
+fn second_report_by<const SIZE: usize>(sheet: &[u8], output: &mut Output) -> u32 {
+    code(report(&Document01, SIZE, sheet, &mut output[..SIZE]))
+}
+
+#[inline(never)]
+fn second_append_by<const SIZE: usize>(buffer: &mut [u8], used: usize, record: &[u8]) -> u32 {
+    code(append(&Document01, SIZE, buffer, used, record))
+}
+
+#[inline(never)]
+fn second_convert_from<const SIZE: usize>(sheet: &[u8], output: &mut [u8]) -> u32 {
+    code(convert(&Document01, SIZE, sheet, output))
+}
+
+fn code(answer: Result<(), Refusal>) -> u32 {
+    answer.err().map_or(0, Refusal::code)
 }
 
 fn main() {
     print_agreement();
     print_reports();
+    print_sizes();
     print_growth();
     print_check();
     print_append();
@@ -69,26 +103,38 @@ fn main() {
 
 /// The contestants do the same work only if they answer alike on what they are timed on.
 fn print_agreement() {
-    let sheets = all_sheets();
-    let unlike = |one: Report, other: Report| {
-        let answer = |report: Report, sheet: &[u8]| {
-            let mut output = [0; REPORT];
-            (report(sheet, &mut output), output)
-        };
-        let differ = |sheet: &&Vec<u8>| answer(one, sheet) != answer(other, sheet);
-        sheets.iter().filter(differ).count()
-    };
+    let (four, six) = (all_sheets(FOUR_POLLUTANTS), all_sheets(SIX_POLLUTANTS));
     println!(
-        "of {} sheets the library answers unlike the second on {}, unlike doubles on {}",
-        sheets.len(),
-        unlike(library_report, second_report),
-        unlike(library_report, doubles)
+        "of {} sheets the library answers unlike the second on {}, unlike doubles on {}, unlike \
+         itself by the size on {}",
+        four.len(),
+        unlike(&four, library_report, second_report_by::<FOUR_POLLUTANTS>),
+        unlike(&four, library_report, doubles),
+        unlike(&four, library_report, library_report_by::<FOUR_POLLUTANTS>)
     );
+    let [library, second]: [Report; 2] = [
+        library_report_by::<SIX_POLLUTANTS>,
+        second_report_by::<SIX_POLLUTANTS>,
+    ];
+    println!(
+        "of {} sheets of 28-byte records it answers unlike the second on {}",
+        six.len(),
+        unlike(&six, library, second)
+    );
+}
+
+fn unlike(sheets: &[Vec<u8>], one: Report, other: Report) -> usize {
+    let answer = |report: Report, sheet: &[u8]| {
+        let mut output = [0; LONGEST_REPORT];
+        (report(sheet, &mut output), output)
+    };
+    let differ = |sheet: &&Vec<u8>| answer(one, sheet) != answer(other, sheet);
+    sheets.iter().filter(differ).count()
 }
 
 /// One pass: a report of every sheet.
 fn reporting(report: Report, sheets: &[Vec<u8>]) -> impl FnMut() + '_ {
-    let mut output = [0; REPORT];
+    let mut output = [0; LONGEST_REPORT];
     move || {
         for sheet in sheets {
             black_box(report(black_box(sheet), &mut output));
@@ -119,27 +165,30 @@ fn typical_by_doubles(plan: u8) -> f64 {
 fn print_reports() {
     println!("report, time of the library by that of the second implementation, and of doubles:");
     for plan in 1..=PLANS {
-        let sheets = sheets::full(plan, Document01.last_row(plan), SHEETS);
         print_report(
             &format!("plan {plan}, full sheets"),
-            &sheets,
+            &full(FOUR_POLLUTANTS, plan),
             full_by_doubles(plan),
         );
     }
     for plan in 1..=PLANS {
-        let sheets = sheets::typical(plan, SHEETS);
         print_report(
             &format!("plan {plan}, typical sheets"),
-            &sheets,
+            &sheets::typical(FOUR_POLLUTANTS, plan, SHEETS),
             typical_by_doubles(plan),
         );
     }
 }
 
+/// To the plan's last row.
+fn full(size: usize, plan: u8) -> Vec<Vec<u8>> {
+    sheets::full(size, plan, Document01.last_row(plan), SHEETS)
+}
+
 fn print_report(title: &str, sheets: &[Vec<u8>], goal_by_doubles: f64) {
     let times = time(&mut [
         &mut reporting(library_report, sheets),
-        &mut reporting(second_report, sheets),
+        &mut reporting(second_report_by::<FOUR_POLLUTANTS>, sheets),
         &mut reporting(doubles, sheets),
     ]);
     let by_second = against(times.ratio(0, 1), BY_SECOND);
@@ -148,10 +197,45 @@ fn print_report(title: &str, sheets: &[Vec<u8>], goal_by_doubles: f64) {
     println!("  {title:<24} second {by_second:<22} doubles {by_doubles:<24} {nanoseconds:6.0} ns");
 }
 
+/// Sheets of 28-byte records by those of 20, and the entry that names the size by the one that does
+/// not.
+fn print_sizes() {
+    println!("report by the size, time of the library; sheets of 28-byte records by those of 20:");
+    for plan in 1..=PLANS {
+        let sheets = SIZES.map(|size| full(size, plan));
+        let by_four = |ratio| against(ratio, SIX_BY_FOUR);
+        print_size(&format!("plan {plan}, full sheets"), &sheets, by_four);
+    }
+    for plan in 1..=PLANS {
+        let sheets = SIZES.map(|size| sheets::typical(size, plan, SHEETS));
+        let by_four = |ratio| format!("{ratio:5.2}");
+        print_size(&format!("plan {plan}, typical sheets"), &sheets, by_four);
+    }
+}
+
+fn print_size(title: &str, [four, six]: &[Vec<Vec<u8>>; 2], by_four: fn(f64) -> String) {
+    let times = time(&mut [
+        &mut reporting(library_report, four),
+        &mut reporting(library_report_by::<FOUR_POLLUTANTS>, four),
+        &mut reporting(library_report_by::<SIX_POLLUTANTS>, six),
+        &mut reporting(second_report_by::<SIX_POLLUTANTS>, six),
+    ]);
+    let by_four = by_four(times.ratio(2, 0));
+    let by_second = against(times.ratio(2, 3), BY_SECOND);
+    let nanoseconds = times.seconds(2) / six.len() as f64 * 1e9;
+    println!(
+        "  {title:<24} by 20 {by_four:<22} second {by_second:<22} {nanoseconds:6.0} ns; at 20 by \
+         the entry without a size {:5.2}",
+        times.ratio(1, 0)
+    );
+}
+
 fn print_growth() {
     println!("growth with the engines, time of the library by that at 8 engines:");
     for plan in [1, 2] {
-        let [eight, sixteen, all] = [8, 16, 32].map(|n| sheets::full(plan, n, SHEETS));
+        let [eight, sixteen, all] =
+            [8, 16, 32].map(|n| sheets::full(FOUR_POLLUTANTS, plan, n, SHEETS));
+        let second_report = second_report_by::<FOUR_POLLUTANTS>;
         let times = time(&mut [
             &mut reporting(library_report, &eight),
             &mut reporting(library_report, &sixteen),
@@ -169,7 +253,7 @@ fn print_check() {
     let sheets = [sheets::refused_at_the_end()];
     let times = time(&mut [
         &mut reporting(library_report, &sheets),
-        &mut reporting(second_report, &sheets),
+        &mut reporting(second_report_by::<FOUR_POLLUTANTS>, &sheets),
         &mut reporting(doubles, &sheets),
     ]);
     let rate = sheets[0].len() as f64 / times.seconds(0) / 1e6;
@@ -180,21 +264,18 @@ fn print_check() {
 }
 
 fn print_append() {
-    let sheets = sheets::full(1, 32, SHEETS);
+    let sheets = sheets::full(FOUR_POLLUTANTS, 1, 32, SHEETS);
     let appending = |append: Append| {
         let mut buffers = sheets.clone();
         move || {
             for buffer in &mut buffers {
-                let used = buffer.len() - RECORD;
-                let mut record = [0; RECORD];
-                record.copy_from_slice(&buffer[used..]);
-                black_box(append(buffer, used, black_box(&record)));
+                append_last(append, FOUR_POLLUTANTS, buffer);
             }
         }
     };
     let times = time(&mut [
         &mut appending(library_append),
-        &mut appending(second_append),
+        &mut appending(second_append_by::<FOUR_POLLUTANTS>),
     ]);
     println!("append of the 32nd engine, time of the library:");
     println!(
@@ -203,58 +284,121 @@ fn print_append() {
     );
 }
 
-/// Everything that report and append are timed on, once.
-fn call_all(report: Report, append: Append, sheets: &mut [Vec<u8>]) {
-    let mut output = [0; REPORT];
-    for sheet in sheets {
-        black_box(report(sheet, &mut output));
-        let used = sheet.len() - RECORD;
-        let mut record = [0; RECORD];
-        record.copy_from_slice(&sheet[used..]);
-        black_box(append(sheet, used, &record));
+/// The sheet's last record, to the others.
+fn append_last(append: Append, size: usize, sheet: &mut [u8]) {
+    let used = sheet.len() - size;
+    let mut last = [0; SIX_POLLUTANTS];
+    let record = &mut last[..size];
+    record.copy_from_slice(&sheet[used..]);
+    black_box(append(sheet, used, black_box(record)));
+}
+
+/// One implementation of each operation, for one size.
+struct Operations {
+    size: usize,
+    report: Report,
+    append: Append,
+    convert: Convert,
+}
+
+const LIBRARY: [Operations; 2] = [
+    Operations {
+        size: FOUR_POLLUTANTS,
+        report: library_report,
+        append: library_append,
+        convert: library_convert_from::<FOUR_POLLUTANTS>,
+    },
+    Operations {
+        size: SIX_POLLUTANTS,
+        report: library_report_by::<SIX_POLLUTANTS>,
+        append: library_append_by::<SIX_POLLUTANTS>,
+        convert: library_convert_from::<SIX_POLLUTANTS>,
+    },
+];
+
+const SECOND: [Operations; 2] = [
+    Operations {
+        size: FOUR_POLLUTANTS,
+        report: second_report_by::<FOUR_POLLUTANTS>,
+        append: second_append_by::<FOUR_POLLUTANTS>,
+        convert: second_convert_from::<FOUR_POLLUTANTS>,
+    },
+    Operations {
+        size: SIX_POLLUTANTS,
+        report: second_report_by::<SIX_POLLUTANTS>,
+        append: second_append_by::<SIX_POLLUTANTS>,
+        convert: second_convert_from::<SIX_POLLUTANTS>,
+    },
+];
+
+/// Sheets of each size, and room for what is converted.
+struct Work {
+    sheets: [Vec<Vec<u8>>; 2],
+    room: Vec<u8>,
+}
+
+impl Work {
+    fn new() -> Self {
+        Work {
+            sheets: SIZES.map(all_sheets),
+            room: vec![0; Document01.longest_sheet(SIX_POLLUTANTS)],
+        }
+    }
+
+    /// Every operation on every sheet, once; how many calls.
+    fn call_all(&mut self, operations: &[Operations; 2]) -> usize {
+        let mut output = [0; LONGEST_REPORT];
+        let mut calls = 0;
+        for (operations, sheets) in operations.iter().zip(&mut self.sheets) {
+            for sheet in sheets {
+                black_box((operations.report)(sheet, &mut output));
+                append_last(operations.append, operations.size, sheet);
+                black_box((operations.convert)(sheet, &mut self.room));
+                calls += 3;
+            }
+        }
+        calls
     }
 }
 
-fn all_sheets() -> Vec<Vec<u8>> {
-    let full = (1..=PLANS).flat_map(|plan| sheets::full(plan, Document01.last_row(plan), SHEETS));
-    let typical = (1..=PLANS).flat_map(|plan| sheets::typical(plan, SHEETS));
-    full.chain(typical)
-        .chain([sheets::refused_at_the_end()])
-        .collect()
+/// Everything that a report is timed on.
+fn all_sheets(size: usize) -> Vec<Vec<u8>> {
+    let full = (1..=PLANS).flat_map(|plan| full(size, plan));
+    let typical = (1..=PLANS).flat_map(|plan| sheets::typical(size, plan, SHEETS));
+    let mut sheets: Vec<Vec<u8>> = full.chain(typical).collect();
+    if size == FOUR_POLLUTANTS {
+        sheets.push(sheets::refused_at_the_end());
+    }
+    sheets
 }
 
 fn print_heap() {
-    let mut sheets = all_sheets();
+    let mut work = Work::new();
     // SAFETY: it only reads a counter; this program has one thread.
     let before = unsafe { allocations_so_far() };
-    call_all(library_report, library_append, &mut sheets);
+    let calls = work.call_all(&LIBRARY);
     let made = unsafe { allocations_so_far() } - before;
     println!("heap, counted in a stand-in for the C library's malloc and its kin:");
-    println!(
-        "  {made} allocations in {} calls of the library",
-        2 * sheets.len()
-    );
+    println!("  {made} allocations in {calls} calls of the library");
 }
 
 fn print_stack() {
-    let mut sheets = all_sheets();
+    let mut work = Work::new();
     let mut depth = |function| {
-        // SAFETY: the function gets the sheets, which nothing else uses until it returns.
-        unsafe { stack_depth(function, (&raw mut sheets).cast()) }
+        // SAFETY: the function gets the work, which nothing else uses until it returns.
+        unsafe { stack_depth(function, (&raw mut work).cast()) }
     };
     let [library, second] = [run_library, run_second].map(&mut depth);
     println!("stack, the deepest byte changed of a painted stack, over the same calls:");
     println!("  library {library} bytes, second implementation {second} bytes");
 }
 
-extern "C" fn run_library(sheets: *mut c_void) {
-    // SAFETY: `print_stack` passes its sheets.
-    let sheets = unsafe { &mut *sheets.cast::<Vec<Vec<u8>>>() };
-    call_all(library_report, library_append, sheets);
+extern "C" fn run_library(work: *mut c_void) {
+    // SAFETY: `print_stack` passes its work.
+    unsafe { &mut *work.cast::<Work>() }.call_all(&LIBRARY);
 }
 
-extern "C" fn run_second(sheets: *mut c_void) {
-    // SAFETY: `print_stack` passes its sheets.
-    let sheets = unsafe { &mut *sheets.cast::<Vec<Vec<u8>>>() };
-    call_all(second_report, second_append, sheets);
+extern "C" fn run_second(work: *mut c_void) {
+    // SAFETY: `print_stack` passes its work.
+    unsafe { &mut *work.cast::<Work>() }.call_all(&SECOND);
 }

@@ -4,7 +4,7 @@ use Rattle.arithmetic.proofs.Basics.{append-assoc, append-nil, eqb, leb, ltb, l
 use Rattle.arithmetic.proofs.Basics.{never, or-false, and-left, and-right, and-never, by-test, any-left, those-append}
 use Rattle.rules.specs.Tools.{any, within}
 use Rattle.rules.specs.Sheet.{Record, size, most, records, pollutantKind, engineKind, stopKind, kind, ofKind, planNumber, declared, stopped}
-use Rattle.rules.specs.Refusals.{misplaced, badNumber, badPlan, badLimit, badDeviation, badMeasurement, badCause, tooMany, Fault, fault, first, faults, faultOf}
+use Rattle.rules.specs.Refusals.{misplaced, badNumber, badPlan, badLimit, badDeviation, badMeasurement, badCause, tooMany, unused, Fault, fault, first, faults, faultOf}
 use Rattle.rules.specs.Refusals.{Check, accepted, refused, checkFrom, badLength, check}
 
 -- ---- each record has no fault after those before it
@@ -45,9 +45,9 @@ pub record Sound (w : ℕ) (b : List ℕ) : Type 0 where
   pub longest : length b ≤ most w * size w
   pub clean : Clean w [] (records w b)
 
-pub cond-accepted : (t : Bool) (c : Check) → cond t (refused 1 0) c ≡ accepted → (t ≡ false) × (c ≡ accepted)
-cond-accepted true c e = let z : true ≡ false = cc in never z
-cond-accepted false c e = (refl, e)
+pub cond-accepted : (n : ℕ) (t : Bool) (c : Check) → cond t (refused n 0) c ≡ accepted → (t ≡ false) × (c ≡ accepted)
+cond-accepted n true c e = let z : true ≡ false = cc in never z
+cond-accepted n false c e = (refl, e)
 
 -- "1, no bytes, a length not a multiple of 20, or over 740 bytes"
 pub length-fine : (w n : ℕ) → badLength w n ≡ false → (1 ≤ n) × ((n % size w ≡ 0) × (n ≤ most w * size w))
@@ -61,7 +61,7 @@ length-fine w n e =
 pub sound : (w : ℕ) (b : List ℕ) → check w b ≡ accepted → Sound w b
 unfolding check
 sound w b e =
-    let p = cond-accepted (badLength w (length b)) (checkFrom w [] (records w b)) e in
+    let p = cond-accepted 1 (badLength w (length b)) (checkFrom w [] (records w b)) e in
     let l = length-fine w (length b) (p .0) in
     record { some = l .0; whole = l .1 .0; longest = l .1 .1; clean = clean-of w [] (records w b) (p .1) }
 
@@ -88,6 +88,7 @@ pub record Faultless (w : ℕ) (before : List Record) (r : Record) : Type 0 wher
   pub measured : eqb (kind r) engineKind ≡ true → badMeasurement w (declared before) r ≡ false
   pub caused : eqb (kind r) engineKind ≡ true → badCause (planNumber before) (declared before) r ≡ false
   pub counted : eqb (kind r) engineKind ≡ true → tooMany before ≡ false
+  pub zeroed : unused w r ≡ false
 
 pub faultless : (w : ℕ) (before : List Record) (r : Record) → faultOf w before r ≡ 0 → Faultless w before r
 unfolding faultOf faults
@@ -105,6 +106,7 @@ faultless w before r e =
       measured = and-right _ _ (of-engines .0);
       caused = and-right _ _ (of-engines .1 .0);
       counted = and-right _ _ (of-engines .1 .1 .0);
+      zeroed = of-engines .1 .1 .1 .1 .0;
     }
 
 -- ---- the order of the kinds

@@ -10,7 +10,7 @@ use Rattle.accepted.proofs.ByNumber.{InOrder, in-order}
 use Rattle.accepted.proofs.Causes.{each-engine}
 
 -- a test that holds of none of the numbers 1 to w
-none-of : (f : ℕ → Bool) (w : ℕ) → any f (numbers w) ≡ false → (p : ℕ) → 1 ≤ p → p ≤ w → f p ≡ false
+pub none-of : (f : ℕ → Bool) (w : ℕ) → any f (numbers w) ≡ false → (p : ℕ) → 1 ≤ p → p ≤ w → f p ≡ false
 none-of f zero e p l h = absurd (omega arith)
 none-of f (suc w) e p l h =
     let t = or-false (any f (numbers w)) (f (suc w)) (sym (any-snoc f (numbers w) (suc w)) ∙ e) in

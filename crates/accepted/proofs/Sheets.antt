@@ -1,8 +1,8 @@
 -- What an accepted sheet has: records in their places, a plan, and engines to its last row at most.
-use Rattle.arithmetic.proofs.Basics.{ℕ, zero, suc, _+_, _*_, _≤_, _<_, arith, _≡_, refl, sym, ap, _∙_, Bool, true, false, cond, List, [], _∷_, _++_}
+use Rattle.arithmetic.proofs.Basics.{ℕ, zero, suc, _+_, _*_, _/_, _≤_, _<_, mul-zero, mul-div-le, mul-le-mul-left, div-le-of-le-mul, arith, _≡_, refl, sym, ap, _∙_, Bool, true, false, cond, List, [], _∷_, _++_}
 use Rattle.arithmetic.proofs.Basics.{append-assoc, append-nil, eqb, length, getD, length-append, length-map, List·getD-append, List·getD-map, eqb-true}
 use Rattle.arithmetic.proofs.Basics.{not-false, leb-false, in-range, by-test}
-use Rattle.rules.specs.Sheet.{Record, pollutants, recordSize, mostRecords, records, pollutantKind, engineKind, stopKind, kind, plan, ofKind, engines, pollutant}
+use Rattle.rules.specs.Sheet.{Record, morePollutants, size, most, records, pollutantKind, engineKind, stopKind, kind, plan, ofKind, engines, pollutant}
 use Rattle.rules.specs.Sheet.{declared, planNumber}
 use Rattle.rules.specs.Plans.{Plan, knownDeviation, unknownDeviation, attributes, inService, corrected, planOf, lastRow, planCount, numberOf}
 use Rattle.rules.specs.Refusals.{misplaced, badPlan, tooMany}
@@ -90,61 +90,77 @@ engines-after w before (r ∷ rs) c h =
 
 -- ---- an accepted sheet
 
-module _ {b : List ℕ} {plan : Plan} {start : ℕ} (s : AcceptedSheet b plan start) where
+-- record k of the whole records of l bytes lies in them
+pub record-inside : (w n l k : ℕ) → size w * n ≤ l → k < n → size w * k + size w ≤ l
+record-inside w n l k h i = let m : k + 1 ≤ n = omega arith in omega (arith, mul-le-mul-left w m)
+
+pub whole-inside : (w l k : ℕ) → k < l / size w → size w * k + size w ≤ l
+whole-inside w l k i = record-inside w (l / size w) l k (mul-div-le l (size w)) i
+
+module _ {w : ℕ} {b : List ℕ} {plan : Plan} {start : ℕ} (s : AcceptedSheet w b plan start) where
   abbrev rs : List Record
-  rs = records pollutants b
+  rs = records w b
 
   abbrev es : List Record
-  es = enginesIn b
+  es = enginesIn w b
 
-  is-sound : Sound pollutants b
-  is-sound = sound pollutants b (s .accepts)
+  is-sound : Sound w b
+  is-sound = sound w b (s .accepts)
 
-  pub clean : Clean pollutants [] rs
+  pub clean : Clean w [] rs
   clean = is-sound .clean
 
-  pub some-record : 1 ≤ length rs
-  some-record = omega (arith, length-records pollutants b, whole-records recordSize (length b) (is-sound .whole), is-sound .some)
+  all-bytes : length b ≡ size w * length rs
+  all-bytes = rw (length-records w b) (whole-records (size w) (length b) (is-sound .whole))
 
-  pub order : InOrder pollutants 0 (pollutantsIn b)
+  pub some-record : 1 ≤ length rs
+  some-record = cases rs all-bytes
+    where
+      cases : (rs : List Record) → length b ≡ size w * length rs → 1 ≤ length rs
+      cases [] e = absurd (omega (arith, is-sound .some, mul-zero (size w)))
+      cases (r ∷ rs) e = omega arith
+
+  pub order : InOrder w 0 (pollutantsIn w b)
   unfolding declared ofKind
-  order = in-order pollutants [] rs clean
+  order = in-order w [] rs clean
 
   all-records : length rs ≡ start + (length es + length (ofKind stopKind rs))
-  all-records = rw (s .starts) (counts pollutants rs clean)
+  all-records = rw (s .starts) (counts w rs clean)
 
   -- pollutants and engines lie in the sheet
-  pub inside : recordSize * (start + length es) ≤ length b
-  inside = omega (arith, all-records, length-records pollutants b, whole-records recordSize (length b) (is-sound .whole))
+  pub inside : size w * (start + length es) ≤ length b
+  inside = rw all-bytes (mul-le-mul-left (size w) (omega (arith, all-records)))
 
-  pub few : start + length es ≤ mostRecords
-  few = omega (arith, inside, is-sound .longest)
+  pub few : start + length es ≤ most morePollutants
+  few =
+      let k = div-le-of-le-mul (size w) {m = length b} {n = most w} (omega (arith, is-sound .longest)) in
+      omega (arith, all-records, length-records w b, s .sized)
 
   -- engine j is record start + j, and pollutant k is record k
-  pub engine-is : (j : ℕ) → j < length es → getD es j [] ≡ recordAt b (start + j)
+  pub engine-is : (j : ℕ) → j < length es → getD es j [] ≡ recordAt w b (start + j)
   engine-is j h =
-      rw (← s .starts) at (engine-at pollutants rs clean j h) ∙ record-at pollutants b (start + j) (omega (arith, all-records, length-records pollutants b))
+      rw (← s .starts) at (engine-at w rs clean j h) ∙ record-at w b (start + j) (omega (arith, all-records, length-records w b))
 
-  pub declared-length : length (pollutantsIn b) ≡ start
+  pub declared-length : length (pollutantsIn w b) ≡ start
   unfolding declared
   declared-length = length-map (ofKind pollutantKind rs) pollutant ∙ sym (s .starts)
 
-  pub pollutant-is : (k : ℕ) → k < start → getD (pollutantsIn b) k (pollutant []) ≡ pollutant (recordAt b k)
+  pub pollutant-is : (k : ℕ) → k < start → getD (pollutantsIn w b) k (pollutant []) ≡ pollutant (recordAt w b k)
   unfolding declared
   pollutant-is k h =
       let l : k < length (ofKind pollutantKind rs) = rw (← (s .starts)) h in
       List·getD-map pollutant (ofKind pollutantKind rs) k []
-      ∙ ap pollutant (sym (ap (λ (xs : List Record). getD xs k []) (layout pollutants [] rs clean)
+      ∙ ap pollutant (sym (ap (λ (xs : List Record). getD xs k []) (layout w [] rs clean)
       ∙ List·getD-append (ofKind pollutantKind rs) (ofKind engineKind rs ++ ofKind stopKind rs) [] k l)
-      ∙ record-at pollutants b k (omega (arith, all-records, length-records pollutants b)))
+      ∙ record-at w b k (omega (arith, all-records, length-records w b)))
 
   -- no more engines than rows
   pub rows-fit : length es ≤ lastRow plan
   unfolding ofKind
-  rows-fit = rw (s .planned) (engines-after pollutants [] rs clean (omega arith))
+  rows-fit = rw (s .planned) (engines-after w [] rs clean (omega arith))
 
   -- in plan 4 the gross emitters are the vehicles with a cause, and in the other plans there is none
-  pub caused : Caused (isInService plan) (pollutantsIn b) es
+  pub caused : Caused (isInService plan) (pollutantsIn w b) es
   caused =
-      let r = plan-range pollutants rs some-record clean in
-      rw (s .planned, service-number (planOf (planNumber rs)), number-of-plan (planNumber rs) (r .0) (r .1)) (causes pollutants rs clean)
+      let r = plan-range w rs some-record clean in
+      rw (s .planned, service-number (planOf (planNumber rs)), number-of-plan (planNumber rs) (r .0) (r .1)) (causes w rs clean)

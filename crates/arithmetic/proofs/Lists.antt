@@ -9,7 +9,7 @@ use lib.ListN.{length, getD, take, drop}
 use lib.Seq.{take-nil}
 use borrow.Author.Tests.{eqb-true, eqb-false}
 use Rattle.rules.specs.Tools.{any, those}
-use Rattle.arithmetic.proofs.Booleans.{or-same, or-true, or-assoc, or-right, or-follows, by-test}
+use Rattle.arithmetic.proofs.Booleans.{or-false, or-same, or-true, or-assoc, or-right, or-follows, by-test}
 
 module _ {A : Type 0} (test : A → Bool) where
   pub any-append : (xs ys : List A) → any test (xs ++ ys) ≡ any test xs || any test ys
@@ -42,6 +42,11 @@ pub map-append : {A B : Type 0} (f : A → B) (xs ys : List A) → map f (xs ++ 
 map-append f [] ys = refl
 map-append {B} f (x ∷ xs) ys = ap (λ (l : List B). f x ∷ l) (map-append f xs ys)
 
+pub take-map : {A B : Type 0} (f : A → B) (m : ℕ) (xs : List A) → take m (map f xs) ≡ map f (take m xs)
+take-map f zero xs = refl
+take-map f (suc m) [] = refl
+take-map f (suc m) (x ∷ xs) = rw (take-map f m xs) refl
+
 -- the part of n + 1 from i on: the first of it, d where the list has ended, and the rest
 pub any-part : {A : Type 0} (test : A → Bool) (d : A) → test d ≡ false → (n i : ℕ) (xs : List A)
     → any test (take (suc n) (drop i xs)) ≡ test (getD xs i d) || any test (take n (drop (suc i) xs))
@@ -50,8 +55,14 @@ any-part test d e n (suc i) [] = rw (e, take-nil n) refl
 any-part test d e n zero (x ∷ xs) = refl
 any-part test d e n (suc i) (x ∷ xs) = any-part test d e n i xs
 
+-- a test that holds of none of the list, and not of d
+pub any-none : {A : Type 0} (test : A → Bool) (d : A) → test d ≡ false → (xs : List A) → any test xs ≡ false → (i : ℕ) → test (getD xs i d) ≡ false
+any-none test d e [] f i = e
+any-none test d e (x ∷ xs) f zero = or-false (test x) (any test xs) f .0
+any-none test d e (x ∷ xs) f (suc i) = any-none test d e xs (or-false (test x) (any test xs) f .1) i
+
 -- a test that is the same of each, or follows of each
-any-same : {A : Type 0} (f h : A → Bool) → ((x : A) → h x ≡ f x) → (xs : List A) → any h xs ≡ any f xs
+pub any-same : {A : Type 0} (f h : A → Bool) → ((x : A) → h x ≡ f x) → (xs : List A) → any h xs ≡ any f xs
 any-same f h i [] = refl
 any-same f h i (x ∷ xs) = rw (i x, any-same f h i xs) refl
 

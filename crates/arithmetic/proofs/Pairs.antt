@@ -3,8 +3,8 @@ use Prim.Native.Nat.{ℕ, zero, suc, _<_}
 use native.Mathlib.Omega.{arith}
 use mathlib.Core.Path.{_≡_, refl, ap}
 use mathlib.Core.Bool.{Bool, true, cond}
-use mathlib.Core.List.{List, [], _∷_, map}
-use lib.ListN.{length, getD, take}
+use mathlib.Core.List.{List, [], _∷_, _++_, map}
+use lib.ListN.{length, getD, take, drop}
 use Rattle.rules.specs.Tools.{any, all, those}
 use Rattle.arithmetic.proofs.Booleans.{or-follows, and-follows, by-test}
 
@@ -29,6 +29,20 @@ module _ {A B : Type 0} {P : A → B → Type 0} where
   pairs-take zero r = none
   pairs-take (suc n) none = none
   pairs-take (suc n) (more h r) = more h (pairs-take n r)
+
+  pub pairs-drop : {xs : List A} {ys : List B} (n : ℕ) → Pairs P xs ys → Pairs P (drop n xs) (drop n ys)
+  pairs-drop zero r = r
+  pairs-drop (suc n) none = none
+  pairs-drop (suc n) (more h r) = pairs-drop n r
+
+  pub pairs-append : {xs zs : List A} {ys vs : List B} → Pairs P xs ys → Pairs P zs vs → Pairs P (xs ++ zs) (ys ++ vs)
+  pairs-append none q = q
+  pairs-append (more h r) q = more h (pairs-append r q)
+
+  -- in a relation that follows
+  pub pairs-follow : {Q : A → B → Type 0} {xs : List A} {ys : List B} → ((x : A) (y : B) → P x y → Q x y) → Pairs P xs ys → Pairs Q xs ys
+  pairs-follow i none = none
+  pairs-follow i (more {x} {y} h r) = more (i x y h) (pairs-follow i r)
 
   pub pairs-map : {C D : Type 0} {Q : C → D → Type 0} {xs : List A} {ys : List B} (f : A → C) (g : B → D)
       → ((x : A) (y : B) → P x y → Q (f x) (g y)) → Pairs P xs ys → Pairs Q (map f xs) (map g ys)

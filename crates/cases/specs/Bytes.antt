@@ -19,6 +19,13 @@ engine c x₁ x₂ x₃ x₄ = (2 ∷ 0 ∷ c % 256 ∷ c / 256 ∷ []) ++ u32 x
 abbrev pub measured : ℕ → List ℕ
 measured x = engine 0 x 0 0 0
 
+-- 02, F-10, "A 28-byte record has six measurements": a record of 20 bytes with "the new ones zero", and an engine with measurements 5 and 6
+abbrev pub wide : List ℕ → List ℕ
+wide r = r ++ replicate 8 0
+
+abbrev pub six : (cause x₁ x₂ x₃ x₄ x₅ x₆ : ℕ) → List ℕ
+six c x₁ x₂ x₃ x₄ x₅ x₆ = engine c x₁ x₂ x₃ x₄ ++ u32 x₅ ++ u32 x₆
+
 -- kind 3
 abbrev pub stop : List ℕ
 stop = 3 ∷ replicate 19 0

@@ -4,4 +4,5 @@ pub mod Printing
 pub mod Table
 pub mod Corrected
 pub mod Finer
+pub mod Sizes
 pub mod DeclaredValue

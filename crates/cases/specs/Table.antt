@@ -17,11 +17,11 @@ unfolding judged
 logarithms = refl
 
 -- a sheet and what judging answers for it
-record Case : Type 0 where
-  sheet : List ℕ
-  answer : Answer
+pub record Case : Type 0 where
+  pub sheet : List ℕ
+  pub answer : Answer
 
-abbrev _↦→_ : List ℕ → Answer → Case
+abbrev pub _↦→_ : List ℕ → Answer → Case
 b ↦→ a = record { sheet = b; answer = a }
 
 infix 20 _↦→_

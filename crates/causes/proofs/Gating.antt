@@ -18,12 +18,12 @@ use Rattle.causes.specs.Ranges.{InServiceRange}
 use Rattle.causes.proofs.Emitting.{any-those, those-not, those-next, count-next, caused-cut, leftBy, beforeBy, before-is, closes-pick}
 
 -- plans 1 to 3 and 5: what comes before a row's statistics ends no series
-pub plain-gate : (plan : Plan) (b : List ℕ) (n : ℕ) → ((k : ℕ) (first : List Record) → rules.planBefore plan (pollutantsIn b) k first ≡ rules.statistics)
-    → openAfter n ≡ gateOf plan b n
+pub plain-gate : (w : ℕ) (plan : Plan) (b : List ℕ) (n : ℕ) → ((k : ℕ) (first : List Record) → rules.planBefore plan (pollutantsIn w b) k first ≡ rules.statistics)
+    → openAfter n ≡ gateOf w plan b n
 unfolding rules.beforeRow
-plain-gate plan b n h =
-    sym (gate-open (beforeIn plan b) n
-    (λ k l. rw (h (suc k) (take (suc k) (enginesIn b))) (by-test (λ t. closes (cond t rules.early rules.statistics) ≡ false) (ltb (suc k) 3) (λ e. refl) (λ e. refl))))
+plain-gate w plan b n h =
+    sym (gate-open (beforeIn w plan b) n
+    (λ k l. rw (h (suc k) (take (suc k) (enginesIn w b))) (by-test (λ t. closes (cond t rules.early rules.statistics) ≡ false) (ltb (suc k) 3) (λ e. refl) (λ e. refl))))
 
 -- ---- equal causes, with one engine more
 
@@ -44,27 +44,27 @@ any-cause c h (e ∷ es) =
     by-test (λ z. any (λ x. eqb x c) (map cause (cond (not z) (e ∷ those hasCause es) (those hasCause es))) ≡ eqb (cause e) c || any (λ r. eqb (cause r) c) es)
     (eqb (cause e) 0) (λ z. rw (ne-eqb (cause e) c (λ w. h (sym w ∙ eqb-true (cause e) 0 z))) (any-cause c h es)) (λ z. rw (any-cause c h es) refl)
 
-module _ {b : List ℕ} {start : ℕ} (s : AcceptedSheet b inService start) {n : ℕ} (l : n < length (enginesIn b))
-    {r : Record} (re : r ≡ recordAt b (start + n)) {z : ℕ} (ze : z ≡ cause r) where
+module _ {w : ℕ} {b : List ℕ} {start : ℕ} (s : AcceptedSheet w b inService start) {n : ℕ} (l : n < length (enginesIn w b))
+    {r : Record} (re : r ≡ recordAt w b (start + n)) {z : ℕ} (ze : z ≡ cause r) where
   abbrev es : List Record
-  es = enginesIn b
+  es = enginesIn w b
 
-  pub equal-next : (c : ℕ) → equalCauses b (n + 1) c ≡ equalCauses b n c + boolByte (eqb z c)
+  pub equal-next : (c : ℕ) → equalCauses w b (n + 1) c ≡ equalCauses w b n c + boolByte (eqb z c)
   equal-next c = rw (add-one n, ze, re, ← (engine-is s n l)) (count-next (λ x. eqb (cause x) c) es n [] l)
 
-  emitters-next : emittersIn b (n + 1) ≡ emittersIn b n ++ cond (not (eqb z 0)) (r ∷ []) []
+  emitters-next : emittersIn w b (n + 1) ≡ emittersIn w b n ++ cond (not (eqb z 0)) (r ∷ []) []
   emitters-next = rw (add-one n, ze, re, ← (engine-is s n l)) (those-next hasCause es n [] l)
 
-  pub repeats-none : z ≡ 0 → repeatsIn b (n + 1) ≡ repeatsIn b n || false
+  pub repeats-none : z ≡ 0 → repeatsIn w b (n + 1) ≡ repeatsIn w b n || false
   repeats-none e = rw (emitters-next, e, append-nil, or-same) refl
 
-  pub repeats-next : (z ≡ 0 → ⊥) → {k : ℕ} → k ≡ equalCauses b n z → repeatsIn b (n + 1) ≡ repeatsIn b n || leb 1 k
+  pub repeats-next : (z ≡ 0 → ⊥) → {k : ℕ} → k ≡ equalCauses w b n z → repeatsIn w b (n + 1) ≡ repeatsIn w b n || leb 1 k
   repeats-next h ke =
       rw (
         emitters-next,
         ne-eqb z 0 h,
-        map-append cause (emittersIn b n) (r ∷ []),
-        repeats-snoc (map cause (emittersIn b n)) (cause r),
+        map-append cause (emittersIn w b n) (r ∷ []),
+        repeats-snoc (map cause (emittersIn w b n)) (cause r),
         ke,
         ← ze,
         any-cause z h (take n es),
@@ -79,89 +79,89 @@ few-repeats (x ∷ []) h = refl
 few-repeats (x ∷ y ∷ xs) h = absurd (omega arith)
 
 -- after n engines, all of whose rows may be looked at, of a sheet with two gross emitters
-pub record Gated (b : List ℕ) (engines n : ℕ) (repeated : Bool) : Type 0 where
+pub record Gated (w : ℕ) (b : List ℕ) (engines n : ℕ) (repeated : Bool) : Type 0 where
   pub most : n ≤ engines
-  pub free : inServiceGate b n ≡ openAfter n
-  pub repeats : repeated ≡ repeatsIn b n
-  pub two : 2 ≤ length (those hasCause (enginesIn b))
+  pub free : inServiceGate w b n ≡ openAfter n
+  pub repeats : repeated ≡ repeatsIn w b n
+  pub two : 2 ≤ length (those hasCause (enginesIn w b))
 
-module _ {b : List ℕ} {start engines : ℕ} (range : InServiceRange b start engines) where
+module _ {w : ℕ} {b : List ℕ} {start engines : ℕ} (range : InServiceRange w b start engines) where
   pub few-rows : engines ≤ lastRow inService
   few-rows = rw (range .all) (rows-fit (range .sheet))
 
-  before-row : (n : ℕ) → beforeIn inService b n ≡ beforeBy n (take n (enginesIn b))
+  before-row : (n : ℕ) → beforeIn w inService b n ≡ beforeBy n (take n (enginesIn w b))
   before-row n =
-      before-is (pollutantsIn b) n (take n (enginesIn b)) inService (caused-cut true (pollutantsIn b) n (enginesIn b) (caused (range .sheet)) .0)
+      before-is (pollutantsIn w b) n (take n (enginesIn w b)) inService (caused-cut true (pollutantsIn w b) n (enginesIn w b) (caused (range .sheet)) .0)
 
-  closes-row : (n : ℕ) → closes (beforeIn inService b n) ≡ leb 3 n && (repeatsIn b n || eqb n 15 && leb 2 (length (emittersIn b n)))
-  closes-row n = rw (before-row n, ← (not-ltb n 3)) (closes-pick (ltb n 3) (repeatsIn b n) (eqb n 15 && leb 2 (length (emittersIn b n))) (leftBy n (take n (enginesIn b))))
+  closes-row : (n : ℕ) → closes (beforeIn w inService b n) ≡ leb 3 n && (repeatsIn w b n || eqb n 15 && leb 2 (length (emittersIn w b n)))
+  closes-row n = rw (before-row n, ← (not-ltb n 3)) (closes-pick (ltb n 3) (repeatsIn w b n) (eqb n 15 && leb 2 (length (emittersIn w b n))) (leftBy n (take n (enginesIn w b))))
 
   -- those without a cause leave the gross emitters
-  pub emitters-are : {k : ℕ} → k ≡ equalCauses b engines 0 → k + length (those hasCause (enginesIn b)) ≡ engines
-  emitters-are ke = rw (ke, range .all, take-length (enginesIn b)) (those-not (λ r. eqb (cause r) 0) (enginesIn b))
+  pub emitters-are : {k : ℕ} → k ≡ equalCauses w b engines 0 → k + length (those hasCause (enginesIn w b)) ≡ engines
+  emitters-are ke = rw (ke, range .all, take-length (enginesIn w b)) (those-not (λ r. eqb (cause r) 0) (enginesIn w b))
 
   -- with fewer than two no row ends the series
-  pub few-gate : {k : ℕ} → k ≡ equalCauses b engines 0 → engines - k < 2 → openAfter engines ≡ inServiceGate b engines
-  few-gate ke h = sym (gate-open (beforeIn inService b) engines (λ n l. closed (suc n)))
+  pub few-gate : {k : ℕ} → k ≡ equalCauses w b engines 0 → engines - k < 2 → openAfter engines ≡ inServiceGate w b engines
+  few-gate ke h = sym (gate-open (beforeIn w inService b) engines (λ n l. closed (suc n)))
     where
-      few : (n : ℕ) → length (emittersIn b n) < 2
+      few : (n : ℕ) → length (emittersIn w b n) < 2
       few n =
           omega (
             arith,
             emitters-are ke,
-            length-append (emittersIn b n) (those hasCause (drop n (enginesIn b))),
-            ap length (sym (those-append hasCause (take n (enginesIn b)) (drop n (enginesIn b))) ∙ ap (those hasCause) (take-append-drop n (enginesIn b))),
+            length-append (emittersIn w b n) (those hasCause (drop n (enginesIn w b))),
+            ap length (sym (those-append hasCause (take n (enginesIn w b)) (drop n (enginesIn w b))) ∙ ap (those hasCause) (take-append-drop n (enginesIn w b))),
           )
 
-      closed : (n : ℕ) → closes (beforeIn inService b n) ≡ false
+      closed : (n : ℕ) → closes (beforeIn w inService b n) ≡ false
       closed n =
           rw (
             closes-row n,
-            few-repeats (map cause (emittersIn b n)) (rw length-map (few n)),
-            lt-leb 2 (length (emittersIn b n)) (few n),
+            few-repeats (map cause (emittersIn w b n)) (rw length-map (few n)),
+            lt-leb 2 (length (emittersIn w b n)) (few n),
             and-never (eqb n 15),
           ) (and-never (leb 3 n))
 
-  pub gated-none : {k : ℕ} → k ≡ equalCauses b engines 0 → 2 ≤ engines - k → Gated b engines 0 false
+  pub gated-none : {k : ℕ} → k ≡ equalCauses w b engines 0 → 2 ≤ engines - k → Gated w b engines 0 false
   unfolding gate
   gated-none ke h = record { most = omega arith; free = refl; repeats = refl; two = omega (arith, emitters-are ke) }
 
-  module _ {n : ℕ} {repeated : Bool} (g : Gated b engines n repeated) (l : n < engines) (x : Bool) (xe : repeatsIn b (n + 1) ≡ repeatsIn b n || x) where
-    now-repeats : repeatsIn b (suc n) ≡ repeated || x
+  module _ {n : ℕ} {repeated : Bool} (g : Gated w b engines n repeated) (l : n < engines) (x : Bool) (xe : repeatsIn w b (n + 1) ≡ repeatsIn w b n || x) where
+    now-repeats : repeatsIn w b (suc n) ≡ repeated || x
     now-repeats = rw (← (add-one n), g .repeats) xe
 
-    pub cause-gate : leb 3 (n + 1) && (repeated || x) ≡ true → causeAfter n ≡ inServiceGate b engines
+    pub cause-gate : leb 3 (n + 1) && (repeated || x) ≡ true → causeAfter n ≡ inServiceGate w b engines
     cause-gate e =
         let t = and-true (leb 3 (n + 1)) (repeated || x) e in
         let m = leb-true 3 (n + 1) (t .0) in
-        gate-ends (beforeIn inService b) n engines l (g .free) rules.equalCause
+        gate-ends (beforeIn w inService b) n engines l (g .free) rules.equalCause
         (before-row (suc n) ∙ (rw (le-ltb (suc n) 3 (omega arith), now-repeats, t .1) refl)) (λ y. refl)
 
     module _ (e : leb 3 (n + 1) && (repeated || x) ≡ false) where
-      pub referral-gate : n + 1 ≡ 15 → referralAfter n ≡ inServiceGate b engines
+      pub referral-gate : n + 1 ≡ 15 → referralAfter n ≡ inServiceGate w b engines
       referral-gate z =
           let f = few-rows in
           let no : repeated || x ≡ false = and-right (leb 3 (n + 1)) (repeated || x) e (le-leb 3 (n + 1) (omega arith)) in
-          gate-ends (beforeIn inService b) n engines l (g .free) rules.referral
+          gate-ends (beforeIn w inService b) n engines l (g .free) rules.referral
           (before-row (suc n) ∙ (rw (
             le-ltb (suc n) 3 (omega arith),
             now-repeats,
             no,
             eq-eqb (suc n) 15 (omega arith),
-            take-all (suc n) (enginesIn b) (omega (arith, range .all)),
-            le-leb 2 (length (those hasCause (enginesIn b))) (g .two),
+            take-all (suc n) (enginesIn w b) (omega (arith, range .all)),
+            le-leb 2 (length (those hasCause (enginesIn w b))) (g .two),
           ) refl)) (λ y. refl)
 
-      pub gated-next : (n + 1 ≡ 15 → ⊥) → Gated b engines (n + 1) (repeated || x)
+      pub gated-next : (n + 1 ≡ 15 → ⊥) → Gated w b engines (n + 1) (repeated || x)
       gated-next z =
           rw (add-one n)
           (record {
             most = l;
-            free = gate-opens (beforeIn inService b) n (g .free)
+            free = gate-opens (beforeIn w inService b) n (g .free)
                 (closes-row (suc n) ∙ (rw (ne-eqb (suc n) 15 (λ y. z (omega arith)), now-repeats, or-same, ← (add-one n)) e));
             repeats = sym now-repeats;
             two = g .two;
           })
 
-  pub gated-all : {n : ℕ} {repeated : Bool} → Gated b engines n repeated → engines ≤ n → openAfter engines ≡ inServiceGate b engines
+  pub gated-all : {n : ℕ} {repeated : Bool} → Gated w b engines n repeated → engines ≤ n → openAfter engines ≡ inServiceGate w b engines
   gated-all {n} g l = let m = g .most in let z : n ≡ engines = omega arith in rw z at (sym (g .free))

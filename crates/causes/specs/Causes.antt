@@ -14,16 +14,16 @@ use Rattle.columns.specs.Columns as columns
 use Rattle.causes.specs.declared.Gate.{Gate}
 use Rattle.causes.specs.declared.Gate.the-variants.{Open, Cause, Referral}
 
--- how many of the first n engines of the bytes have the cause c
-abbrev pub equalCauses : List ℕ → (n c : ℕ) → ℕ
-equalCauses b n c = length (those (λ r. eqb (cause r) c) (take n (enginesIn b)))
+-- how many of the first n engines of the bytes, of w pollutants, have the cause c
+abbrev pub equalCauses : (w : ℕ) → List ℕ → (n c : ℕ) → ℕ
+equalCauses w b n c = length (those (λ r. eqb (cause r) c) (take n (enginesIn w b)))
 
 -- those of them that have a cause, and whether two have an equal one
-abbrev pub emittersIn : List ℕ → (n : ℕ) → List Record
-emittersIn b n = those (λ r. not (eqb (cause r) 0)) (take n (enginesIn b))
+abbrev pub emittersIn : (w : ℕ) → List ℕ → (n : ℕ) → List Record
+emittersIn w b n = those (λ r. not (eqb (cause r) 0)) (take n (enginesIn w b))
 
-abbrev pub repeatsIn : List ℕ → (n : ℕ) → Bool
-repeatsIn b n = rules.repeats (map cause (emittersIn b n))
+abbrev pub repeatsIn : (w : ℕ) → List ℕ → (n : ℕ) → Bool
+repeatsIn w b n = rules.repeats (map cause (emittersIn w b n))
 
 -- whether row n is looked at, where no row so far has ended the series
 unfoldable pub looksBy : (n : ℕ) → (newest any : Bool) → Bool
@@ -36,11 +36,11 @@ gateIs (Cause n) = columns.causeAfter n
 gateIs (Referral n) = columns.referralAfter n
 
 -- what comes before row n of the bytes, and the gate of their first n rows
-abbrev pub beforeIn : Plan → List ℕ → ℕ → rules.Before
-beforeIn plan b = columns.beforeOf plan (pollutantsIn b) (enginesIn b)
+abbrev pub beforeIn : (w : ℕ) → Plan → List ℕ → ℕ → rules.Before
+beforeIn w plan b = columns.beforeOf plan (pollutantsIn w b) (enginesIn w b)
 
-abbrev pub gateOf : Plan → List ℕ → (n : ℕ) → columns.Gate
-gateOf plan b n = columns.gate (beforeIn plan b) n
+abbrev pub gateOf : (w : ℕ) → Plan → List ℕ → (n : ℕ) → columns.Gate
+gateOf w plan b n = columns.gate (beforeIn w plan b) n
 
-abbrev pub inServiceGate : List ℕ → (n : ℕ) → columns.Gate
-inServiceGate b n = gateOf inService b n
+abbrev pub inServiceGate : (w : ℕ) → List ℕ → (n : ℕ) → columns.Gate
+inServiceGate w b n = gateOf w inService b n

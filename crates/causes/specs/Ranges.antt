@@ -9,16 +9,16 @@ use Rattle.plan.specs.declared.Plan.{Plan}
 use Rattle.plan.specs.Plan.{planIs}
 
 -- an accepted sheet of plan 4, and the first n of its engines
-pub record EnginesRange (b : List ℕ) (start n : ℕ) : Type 0 where
-  pub sheet : AcceptedSheet b inService start
-  pub some : n ≤ length (enginesIn b)
+pub record EnginesRange (w : ℕ) (b : List ℕ) (start n : ℕ) : Type 0 where
+  pub sheet : AcceptedSheet w b inService start
+  pub some : n ≤ length (enginesIn w b)
 
 -- the same of all its engines
-pub record InServiceRange (b : List ℕ) (start engines : ℕ) : Type 0 where
-  pub sheet : AcceptedSheet b inService start
-  pub all : engines ≡ length (enginesIn b)
+pub record InServiceRange (w : ℕ) (b : List ℕ) (start engines : ℕ) : Type 0 where
+  pub sheet : AcceptedSheet w b inService start
+  pub all : engines ≡ length (enginesIn w b)
 
 -- and of the sheet's plan
-pub record GateRange (b : List ℕ) (start engines : ℕ) (plan : Plan) : Type 0 where
-  pub sheet : AcceptedSheet b (planIs plan) start
-  pub all : engines ≡ length (enginesIn b)
+pub record GateRange (w : ℕ) (b : List ℕ) (start engines : ℕ) (plan : Plan) : Type 0 where
+  pub sheet : AcceptedSheet w b (planIs plan) start
+  pub all : engines ≡ length (enginesIn w b)

@@ -5,10 +5,12 @@ ghost use mathlib.Core.Path.{_≡_};
 ghost use mathlib.Core.Bool.{_||_};
 ghost use Prim.Native.Nat.{_+_};
 ghost use Rattle.plan.specs.Plan.{planIs};
+ghost use Rattle.record.specs.Sizes.{widthIs};
 ghost use Rattle.columns.specs.Columns.{rowsOf};
 ghost use Rattle.causes.specs.Causes.{equalCauses, repeatsIn, looksBy, gateIs, gateOf, inServiceGate};
 ghost use Rattle.causes.specs.Ranges.{EnginesRange, InServiceRange, GateRange};
 use plan::Plan;
+use record::Size;
 use record::cause_of;
 use record::record_at;
 
@@ -43,14 +45,14 @@ pub fn looks(n: u64, newest: bool, any: bool) -> bool
 }
 
 // How many of the first n engines have the cause.
-fn equal_causes(bytes: &[u8], start: usize, n: usize, cause: u32) -> usize
-    requires { ⌜ EnginesRange (now bytes) start n ⌝ }
-    ensures { λ k. ⌜ k ≡ equalCauses (now (bytes .entry)) n cause ⌝ }
+fn equal_causes(size: Size, bytes: &[u8], start: usize, n: usize, cause: u32) -> usize
+    requires { ⌜ EnginesRange (widthIs size) (now bytes) start n ⌝ }
+    ensures { λ k. ⌜ k ≡ equalCauses (widthIs size) (now (bytes .entry)) n cause ⌝ }
 {
     let mut count: usize = 0;
     let mut k: usize = 0;
     while k < n {
-        let r = record_at(bytes, start + k);
+        let r = record_at(size, bytes, start + k);
         count += (cause_of(r) == cause) as usize;
         k += 1;
     }
@@ -58,30 +60,30 @@ fn equal_causes(bytes: &[u8], start: usize, n: usize, cause: u32) -> usize
 }
 
 // Whether the vehicle behind n engines is a gross emitter, and one of them has its cause.
-fn repeats(bytes: &[u8], start: usize, n: usize) -> bool
-    requires { ⌜ EnginesRange (now bytes) start (n + 1) ⌝ }
-    ensures { λ b. ⌜ repeatsIn (now (bytes .entry)) (n + 1) ≡ repeatsIn (now (bytes .entry)) n || b ⌝ }
+fn repeats(size: Size, bytes: &[u8], start: usize, n: usize) -> bool
+    requires { ⌜ EnginesRange (widthIs size) (now bytes) start (n + 1) ⌝ }
+    ensures { λ b. ⌜ repeatsIn (widthIs size) (now (bytes .entry)) (n + 1) ≡ repeatsIn (widthIs size) (now (bytes .entry)) n || b ⌝ }
 {
-    let cause = cause_of(record_at(bytes, start + n));
+    let cause = cause_of(record_at(size, bytes, start + n));
     if cause == 0 {
         return false;
     }
-    1 <= equal_causes(bytes, start, n, cause)
+    1 <= equal_causes(size, bytes, start, n, cause)
 }
 
 // The rows of plan 4. One gross emitter alone neither has an equal cause nor refers a series: with fewer than two the rows are not
 // gone through, and with two or more a series that reaches the last row is referred.
-fn in_service_gate(bytes: &[u8], start: usize, engines: usize) -> Gate
-    requires { ⌜ InServiceRange (now bytes) start engines ⌝ }
-    ensures { λ g. ⌜ gateIs g ≡ inServiceGate (now (bytes .entry)) engines ⌝ }
+fn in_service_gate(size: Size, bytes: &[u8], start: usize, engines: usize) -> Gate
+    requires { ⌜ InServiceRange (widthIs size) (now bytes) start engines ⌝ }
+    ensures { λ g. ⌜ gateIs g ≡ inServiceGate (widthIs size) (now (bytes .entry)) engines ⌝ }
 {
-    if engines - equal_causes(bytes, start, engines, 0) < 2 {
+    if engines - equal_causes(size, bytes, start, engines, 0) < 2 {
         return Gate::Open(engines as u8);
     }
     let mut repeated = false;
     let mut n: usize = 0;
     while n < engines {
-        repeated = repeated | repeats(bytes, start, n);
+        repeated = repeated | repeats(size, bytes, start, n);
         let rows = n as u8;
         n += 1;
         if (3 <= n) & repeated {
@@ -95,15 +97,15 @@ fn in_service_gate(bytes: &[u8], start: usize, engines: usize) -> Gate
 }
 
 // The rows of an accepted sheet; plans 1 to 3 and 5 end no series before a row's statistics. For `series` alone, which has checked the sheet: so it may require.
-pub fn gate_of(bytes: &[u8], start: usize, engines: usize, plan: Plan) -> Gate
-    requires { ⌜ GateRange (now bytes) start engines plan ⌝ }
-    ensures { λ g. ⌜ gateIs g ≡ gateOf (planIs plan) (now (bytes .entry)) engines ⌝ }
+pub fn gate_of(size: Size, bytes: &[u8], start: usize, engines: usize, plan: Plan) -> Gate
+    requires { ⌜ GateRange (widthIs size) (now bytes) start engines plan ⌝ }
+    ensures { λ g. ⌜ gateIs g ≡ gateOf (widthIs size) (planIs plan) (now (bytes .entry)) engines ⌝ }
 {
     match plan {
         Plan::KnownDeviation => Gate::Open(engines as u8),
         Plan::UnknownDeviation => Gate::Open(engines as u8),
         Plan::Attributes => Gate::Open(engines as u8),
-        Plan::InService => in_service_gate(bytes, start, engines),
+        Plan::InService => in_service_gate(size, bytes, start, engines),
         Plan::Corrected => Gate::Open(engines as u8),
     }
 }

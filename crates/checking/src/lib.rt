@@ -2,12 +2,15 @@
 ghost use mathlib.Core.Path.{_≡_};
 ghost use Prim.Native.Nat.{_+_, _*_};
 ghost use lib.ListN.{length};
-ghost use Rattle.rules.specs.Sheet.{pollutants, records};
+ghost use Rattle.rules.specs.Sheet.{records};
 ghost use Rattle.rules.specs.Refusals.{badLength};
+ghost use Rattle.record.specs.Sizes.{widthIs};
 ghost use Rattle.checking.specs.declared.Checked.the-variants as checked;
-ghost use Rattle.checking.specs.Check.{checkedFrom, checkedOf, soFar, joinedOf, AfterRanges};
+ghost use Rattle.checking.specs.Check.{checkedFrom, checkedOf, checkedSized, soFar, joinedOf, AfterRanges};
 use faults::Summary;
 use faults::fault::fault_of;
+use record::Named;
+use record::Size;
 use record::record_at;
 
 // Why a sheet is turned down: "number and record counted from 0".
@@ -17,6 +20,20 @@ pub struct Refusal {
 }
 
 impl Refusal {
+    // "A refusal that names no record .. returns record 0."
+    pub fn of_no_record(number: u8) -> Refusal
+        ensures { λ r. ⌜ r ≡ record { number = number; place = 0 } ⌝ }
+    {
+        Refusal { number, place: 0 }
+    }
+
+    // "30, size not 20 or 28, before every other".
+    pub fn of_size() -> Refusal
+        ensures { λ r. ⌜ r ≡ record { number = 30; place = 0 } ⌝ }
+    {
+        Refusal::of_no_record(30)
+    }
+
     // The refusal as C gets it: "number × 256 + record".
     pub fn code(self) -> u32
         ensures { λ n. ⌜ n ≡ self .number * 256 + self .place ⌝ }
@@ -31,36 +48,33 @@ pub enum Checked {
     Refused(Refusal),
 }
 
-// "1, no bytes, a length not a multiple of 20, or over 740 bytes"
-fn bad_length(n: usize) -> bool
-    ensures { λ b. ⌜ b ≡ badLength pollutants n ⌝ }
+// "1, no bytes, a length not a multiple of 20, or over 740 bytes", by the size
+fn bad_length(size: Size, n: usize) -> bool
+    ensures { λ b. ⌜ b ≡ badLength (widthIs size) n ⌝ }
 {
-    (n == 0) | (n % record::SIZE != 0) | (record::LONGEST < n)
+    (n == 0) | (size.left_over(n) != 0) | (size.longest() < n)
 }
 
 // "for 1, record 0"
 fn refused_length() -> Checked
     ensures { λ c. ⌜ c ≡ checked.Refused (record { number = 1; place = 0 }) ⌝ }
 {
-    Checked::Refused(Refusal {
-        number: 1,
-        place: 0,
-    })
+    Checked::Refused(Refusal::of_no_record(1))
 }
 
 // "Then the first faulty record, and in it the lowest", of records that stand after those of which `before` tells.
 // The first of them is record `first`. A whole sheet stands after nothing.
 // One loop for it and for bytes behind another: so the faults are looked for in one place, and the compiler puts them into the loop.
-fn check_after(before: Summary, first: usize, bytes: &[u8]) -> Checked
-    requires { ⌜ AfterRanges before first (length (now bytes)) ⌝ }
-    ensures { λ c. ⌜ c ≡ checkedFrom before first (records pollutants (now (bytes .entry))) ⌝ }
+fn check_after(size: Size, before: Summary, first: usize, bytes: &[u8]) -> Checked
+    requires { ⌜ AfterRanges size before first (length (now bytes)) ⌝ }
+    ensures { λ c. ⌜ c ≡ checkedFrom size before first (records (widthIs size) (now (bytes .entry))) ⌝ }
 {
-    let n = bytes.len() / record::SIZE;
+    let n = size.records_in(bytes.len());
     let mut summary = before;
     let mut k: usize = 0;
     while k < n {
-        let r = record_at(bytes, k);
-        let fault = fault_of(summary, r);
+        let r = record_at(size, bytes, k);
+        let fault = fault_of(size, summary, r);
         if fault != 0 {
             return Checked::Refused(Refusal {
                 number: fault,
@@ -74,36 +88,46 @@ fn check_after(before: Summary, first: usize, bytes: &[u8]) -> Checked
 }
 
 // The check of a whole sheet: refusals 1 to 12, "the first faulty record, and in it the lowest".
-pub fn check(bytes: &[u8]) -> Checked
-    ensures { λ c. ⌜ c ≡ checkedOf (now (bytes .entry)) ⌝ }
+pub fn check_sheet(size: Size, bytes: &[u8]) -> Checked
+    ensures { λ c. ⌜ c ≡ checkedOf size (now (bytes .entry)) ⌝ }
 {
-    if bad_length(bytes.len()) {
+    if bad_length(size, bytes.len()) {
         return refused_length();
     }
-    check_after(Summary::nothing(), 0, bytes)
+    check_after(size, Summary::nothing(), 0, bytes)
+}
+
+// The same by the bytes of a record, as a caller names them.
+pub fn check(size: usize, bytes: &[u8]) -> Checked
+    ensures { λ c. ⌜ c ≡ checkedSized size (now (bytes .entry)) ⌝ }
+{
+    let Named::Known(size) = Size::of(size) else {
+        return Checked::Refused(Refusal::of_size());
+    };
+    check_sheet(size, bytes)
 }
 
 // A sheet that bytes are added to: one with no bytes says nothing.
-fn so_far(sheet: &[u8]) -> Checked
-    ensures { λ c. ⌜ c ≡ soFar (now (sheet .entry)) ⌝ }
+fn so_far(size: Size, sheet: &[u8]) -> Checked
+    ensures { λ c. ⌜ c ≡ soFar size (now (sheet .entry)) ⌝ }
 {
     if sheet.len() == 0 {
         return Checked::Accepted(Summary::nothing());
     }
-    check(sheet)
+    check_sheet(size, sheet)
 }
 
 // The check of a sheet by itself, unless it has no bytes, and then with more bytes behind it.
 // What is added is judged by what the sheet says, with no copy of the two.
-pub fn check_joined(sheet: &[u8], more: &[u8]) -> Checked
-    ensures { λ c. ⌜ c ≡ joinedOf (now (sheet .entry)) (now (more .entry)) ⌝ }
+pub fn check_joined(size: Size, sheet: &[u8], more: &[u8]) -> Checked
+    ensures { λ c. ⌜ c ≡ joinedOf size (now (sheet .entry)) (now (more .entry)) ⌝ }
 {
-    let checked = so_far(sheet);
+    let checked = so_far(size, sheet);
     let Checked::Accepted(before) = checked else {
         return checked;
     };
-    if bad_length(sheet.len() + more.len()) {
+    if bad_length(size, sheet.len() + more.len()) {
         return refused_length();
     }
-    check_after(before, sheet.len() / record::SIZE, more)
+    check_after(size, before, size.records_in(sheet.len()), more)
 }

@@ -1,15 +1,18 @@
-// The entries for programs in C, answering number * 256 + record, 0 on success: append and report for the bench's control program,
-// and declared for type approval.
+// The entries for programs in C, answering number * 256 + record, 0 on success: append and report for the bench's control program, of
+// 20-byte records and by the record size, the converter between the sizes, and declared for type approval.
 ghost use mathlib.Core.Path.{_≡_};
 ghost use Rattle.rules.specs.Logarithm.{squarings};
 ghost use Rattle.rules.specs.Sheet.{pollutants};
 ghost use Rattle.rules.specs.Operations as rules;
+ghost use Rattle.rules.specs.Sizes.{appendSized, appendedSized, reportSized, reportedSized};
+ghost use Rattle.rules.specs.Converter.{convert, converted, addedPollutants};
 ghost use Rattle.rules.specs.DeclaredValue as approval;
 ghost use Rattle.operations.specs.Outcomes.{outcomeIs};
 use checking::Refusal;
 use declared_value::Approval;
 use declared_value::approve;
 use operations::Outcome;
+use record::Size;
 
 // "gets number × 256 + record"
 fn code(outcome: Outcome) -> u32
@@ -27,7 +30,7 @@ pub extern "C" fn conformity_append(buffer: &mut [u8], used: usize, record: &[u8
     ensures { λ n. ⌜ n ≡ rules.code (rules.append pollutants (now (buffer .entry)) used (now («record» .entry))) ⌝ }
     ensures { λ _. ⌜ now (buffer .exit) ≡ rules.appended pollutants (now (buffer .entry)) used (now («record» .entry)) ⌝ }
 {
-    code(operations::append(buffer, used, record))
+    code(operations::append(Size::TWENTY, buffer, used, record))
 }
 
 // uint32_t conformity_report(const uint8_t *sheet, size_t sheet_length, uint8_t *output, size_t output_length)
@@ -36,7 +39,39 @@ pub extern "C" fn conformity_report(sheet: &[u8], output: &mut [u8]) -> u32
     ensures { λ n. ⌜ n ≡ rules.code (rules.report pollutants (now (sheet .entry)) (now (output .entry))) ⌝ }
     ensures { λ _. ⌜ now (output .exit) ≡ rules.reported pollutants squarings (now (sheet .entry)) (now (output .entry)) ⌝ }
 {
-    code(operations::report(sheet, output))
+    code(operations::report(Size::TWENTY, sheet, output))
+}
+
+// uint32_t conformity_append_sized(size_t size, uint8_t *buffer, size_t buffer_length, size_t used, const uint8_t *record, size_t record_length)
+#[no_mangle]
+pub extern "C" fn conformity_append_sized(
+    size: usize,
+    buffer: &mut [u8],
+    used: usize,
+    record: &[u8],
+) -> u32
+    ensures { λ n. ⌜ n ≡ rules.code (appendSized size (now (buffer .entry)) used (now («record» .entry))) ⌝ }
+    ensures { λ _. ⌜ now (buffer .exit) ≡ appendedSized size (now (buffer .entry)) used (now («record» .entry)) ⌝ }
+{
+    code(operations::append(size, buffer, used, record))
+}
+
+// uint32_t conformity_report_sized(size_t size, const uint8_t *sheet, size_t sheet_length, uint8_t *output, size_t output_length)
+#[no_mangle]
+pub extern "C" fn conformity_report_sized(size: usize, sheet: &[u8], output: &mut [u8]) -> u32
+    ensures { λ n. ⌜ n ≡ rules.code (reportSized size (now (sheet .entry)) (now (output .entry))) ⌝ }
+    ensures { λ _. ⌜ now (output .exit) ≡ reportedSized size squarings (now (sheet .entry)) (now (output .entry)) ⌝ }
+{
+    code(operations::report(size, sheet, output))
+}
+
+// uint32_t conformity_convert(size_t size, const uint8_t *sheet, size_t sheet_length, uint8_t *output, size_t output_length)
+#[no_mangle]
+pub extern "C" fn conformity_convert(size: usize, sheet: &[u8], output: &mut [u8]) -> u32
+    ensures { λ n. ⌜ n ≡ rules.code (convert pollutants addedPollutants size (now (sheet .entry)) (now (output .entry))) ⌝ }
+    ensures { λ _. ⌜ now (output .exit) ≡ converted pollutants addedPollutants size (now (sheet .entry)) (now (output .entry)) ⌝ }
+{
+    code(converting::convert(size, sheet, output))
 }
 
 // uint32_t conformity_declared(uint32_t declared, const uint32_t *tests, size_t count, uint32_t *sum, uint32_t *divisor)

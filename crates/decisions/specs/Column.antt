@@ -19,18 +19,18 @@ use Rattle.rows.specs.Sums.{sumG, squaresG}
 use Rattle.decisions.specs.declared.Decision.{Decision}
 use Rattle.decisions.specs.Decisions.{decisionIs, isDeclared}
 
--- the decision of the pollutant p, its limit L and its deviation t, after the first n rows of the bytes b
-abbrev pub columnIs : Plan → List ℕ → (p L t n : ℕ) → series.Decision
-columnIs plan b p L t n = columnOf (planIs plan) (pollutantsIn b) squarings (enginesIn b) (record { number = p; limit = L; deviation = t }) n
+-- the decision of the pollutant p, its limit L and its deviation t, after the first n rows of the bytes b of w pollutants
+abbrev pub columnIs : (w : ℕ) → Plan → List ℕ → (p L t n : ℕ) → series.Decision
+columnIs w plan b p L t n = columnOf (planIs plan) (pollutantsIn w b) squarings (enginesIn w b) (record { number = p; limit = L; deviation = t }) n
 
 -- what a declared pollutant's column answers
-pub record ColumnIs (plan : Plan) (b : List ℕ) (p L t n : ℕ) (d : Decision) : Type 0 where
-  pub decides : decisionIs d ≡ columnIs plan b p L t n
+pub record ColumnIs (w : ℕ) (plan : Plan) (b : List ℕ) (p L t n : ℕ) (d : Decision) : Type 0 where
+  pub decides : decisionIs d ≡ columnIs w plan b p L t n
   pub declared : isDeclared d ≡ true
 
 -- its measurements in the first n engines
-abbrev pub measurementsOf : List ℕ → (p n : ℕ) → List ℕ
-measurementsOf b p n = map (λ r. measurement r p) (take n (enginesIn b))
+abbrev pub measurementsOf : (w : ℕ) → List ℕ → (p n : ℕ) → List ℕ
+measurementsOf w b p n = map (λ r. measurement r p) (take n (enginesIn w b))
 
 -- ---- plans 1, 2, 4 and 5: a row from the sums
 

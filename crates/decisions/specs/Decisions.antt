@@ -27,10 +27,10 @@ isDeclared (Failed n) = true
 abbrev pub pairIs : Pair → series.Pair
 pairIs p = series.pair (p .decision) (p .engine)
 
--- ---- of the four pollutants
+-- ---- of the six pollutants
 
 abbrev pub noDecisions : Decisions
-noDecisions = record { co = Undeclared; hc = Undeclared; nox = Undeclared; pm = Undeclared }
+noDecisions = record { co = Undeclared; hc = Undeclared; nox = Undeclared; pm = Undeclared; fifth = Undeclared; sixth = Undeclared }
 
 -- the same, but d for the pollutant p
 unfoldable pub decisionsWith : (p : ℕ) → Decision → Decisions → Decisions
@@ -40,11 +40,16 @@ decisionsWith p d s =
       hc = cond (eqb p 2) d (s .hc);
       nox = cond (eqb p 3) d (s .nox);
       pm = cond (eqb p 4) d (s .pm);
+      fifth = cond (eqb p 5) d (s .fifth);
+      sixth = cond (eqb p 6) d (s .sixth);
     }
 
--- pollutant 1 first
+-- what f says of each, pollutant 1 first
+abbrev pub each : {A : Type 0} → (f : Decision → A) → Decisions → List A
+each f s = f (s .co) ∷ f (s .hc) ∷ f (s .nox) ∷ f (s .pm) ∷ f (s .fifth) ∷ f (s .sixth) ∷ []
+
 abbrev pub decisionsIs : Decisions → List series.Decision
-decisionsIs s = decisionIs (s .co) ∷ decisionIs (s .hc) ∷ decisionIs (s .nox) ∷ decisionIs (s .pm) ∷ []
+decisionsIs s = each decisionIs s
 
 abbrev pub declaredIs : Decisions → List Bool
-declaredIs s = isDeclared (s .co) ∷ isDeclared (s .hc) ∷ isDeclared (s .nox) ∷ isDeclared (s .pm) ∷ []
+declaredIs s = each isDeclared s

@@ -6,14 +6,14 @@ use mathlib.Core.List.{List, [], _∷_}
 use lib.Dec.{ltb}
 use lib.ListN.{length, getD}
 use Rattle.rules.specs.Logarithm.{squarings, g}
-use Rattle.rules.specs.Sheet.{measurement, recordSize}
+use Rattle.rules.specs.Sheet.{size, measurement}
 use Rattle.accepted.specs.Sheets.{recordAt}
 use Rattle.logarithm.specs.Four.{Measured}
 
-module _ (b : List ℕ) (start p : ℕ) where
+module _ (w : ℕ) (b : List ℕ) (start p : ℕ) where
   -- the measurement in the engine behind i engines
   abbrev pub measuredAt : (i : ℕ) → ℕ
-  measuredAt i = measurement (recordAt b (start + i)) p
+  measuredAt i = measurement (recordAt w b (start + i)) p
 
   -- the same, and 1 behind the rows
   unfoldable pub measuredOr : (rows i : ℕ) → ℕ
@@ -25,27 +25,28 @@ module _ (b : List ℕ) (start p : ℕ) where
       g squarings first ∷ g squarings (measuredOr rows i) ∷ g squarings (measuredOr rows (i + 1)) ∷ g squarings (measuredOr rows (i + 2)) ∷ []
 
 -- the four that row n stands in, as far as there are rows
-pub record Logs (logs b : List ℕ) (start p rows n : ℕ) : Type 0 where
+pub record Logs (logs : List ℕ) (w : ℕ) (b : List ℕ) (start p rows n : ℕ) : Type 0 where
   pub room : length logs ≡ 4
-  pub each : (k : ℕ) → (k + 1) / 4 ≡ n / 4 → k < rows → getD logs ((k + 1) % 4) 0 ≡ g squarings (measuredAt b start p k)
+  pub each : (k : ℕ) → (k + 1) / 4 ≡ n / 4 → k < rows → getD logs ((k + 1) % 4) 0 ≡ g squarings (measuredAt w b start p k)
 
 -- ---- ranges
 
--- the engines of all rows lie in the bytes, and their measurements are 1 to 9,999,999
-pub record MeasuredRange (b : List ℕ) (start p rows : ℕ) : Type 0 where
-  pub inside : recordSize * (start + rows) ≤ length b
+-- the engines of all rows lie in the bytes and have a measurement of the pollutant, and their measurements are 1 to 9,999,999
+pub record MeasuredRange (w : ℕ) (b : List ℕ) (start p rows : ℕ) : Type 0 where
+  pub column : p ≤ w
+  pub inside : size w * (start + rows) ≤ length b
   pub few : start + rows < 1000
-  pub measures : (i : ℕ) → i < rows → Measured (measuredAt b start p i)
+  pub measures : (i : ℕ) → i < rows → Measured (measuredAt w b start p i)
 
 -- the same, memory for four numbers, a number to begin with, and how many engines stand before the next
-pub record FourRange (logs : List ℕ) (first : ℕ) (b : List ℕ) (start p rows i : ℕ) : Type 0 where
+pub record FourRange (logs : List ℕ) (first w : ℕ) (b : List ℕ) (start p rows i : ℕ) : Type 0 where
   pub room : length logs ≡ 4
   pub number : Measured first
-  pub all : MeasuredRange b start p rows
+  pub all : MeasuredRange w b start p rows
   pub some : i ≤ rows
 
 -- the same where the memory holds the four of row i, and there is one row more
-pub record NextRange (logs b : List ℕ) (start p rows i : ℕ) : Type 0 where
-  pub last : Logs logs b start p rows i
-  pub all : MeasuredRange b start p rows
+pub record NextRange (logs : List ℕ) (w : ℕ) (b : List ℕ) (start p rows i : ℕ) : Type 0 where
+  pub last : Logs logs w b start p rows i
+  pub all : MeasuredRange w b start p rows
   pub some : i < rows

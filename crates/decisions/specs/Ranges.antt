@@ -40,14 +40,14 @@ pub record RowRange (plan : Plan) (n sum squares level t : ℕ) : Type 0 where
   pub deviation-most : t ≤ greatestDeviation
 
 -- a declared pollutant of an accepted sheet, and rows none of which ends the series before its statistics
-pub record ColumnRange (b : List ℕ) (start : ℕ) (plan : Plan) (p L t rows : ℕ) : Type 0 where
-  pub sheet : AcceptedSheet b (planIs plan) start
-  pub declared : declares (pollutantsIn b) p ≡ true
+pub record ColumnRange (w : ℕ) (b : List ℕ) (start : ℕ) (plan : Plan) (p L t rows : ℕ) : Type 0 where
+  pub sheet : AcceptedSheet w b (planIs plan) start
+  pub declared : declares (pollutantsIn w b) p ≡ true
   pub limit : Measured L
   pub deviation : t ≤ greatestDeviation
-  pub inside : rows ≤ rowsOf (gateOf (planIs plan) b (length (enginesIn b)))
+  pub inside : rows ≤ rowsOf (gateOf w (planIs plan) b (length (enginesIn w b)))
 
 -- the same of a plan that takes logarithms
-pub record LogarithmsRange (b : List ℕ) (start : ℕ) (plan : Plan) (p L t rows : ℕ) : Type 0 where
-  pub column : ColumnRange b start plan p L t rows
+pub record LogarithmsRange (w : ℕ) (b : List ℕ) (start : ℕ) (plan : Plan) (p L t rows : ℕ) : Type 0 where
+  pub column : ColumnRange w b start plan p L t rows
   pub logs : takesLogarithms (planIs plan) ≡ true

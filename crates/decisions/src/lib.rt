@@ -3,6 +3,7 @@ ghost use mathlib.Core.Path.{_≡_};
 ghost use mathlib.Core.Bool.{cond};
 ghost use mathlib.Core.List.{map};
 ghost use Rattle.rules.specs.Series.{pairOf};
+ghost use Rattle.record.specs.Sizes.{widthIs};
 ghost use Rattle.columns.specs.Columns.{upTo};
 ghost use Rattle.decisions.specs.Decisions.{decisionIs, isDeclared, pairIs};
 ghost use Rattle.decisions.specs.Decisions.{noDecisions, decisionsWith, decisionsIs, declaredIs};
@@ -14,6 +15,7 @@ mod fours;
 mod logarithms;
 
 use plan::Plan;
+use record::Size;
 use tables::corrected;
 use tables::in_service;
 use tables::known_deviation;
@@ -83,12 +85,14 @@ impl Decision {
     }
 }
 
-// A decision for each pollutant, "carbon monoxide, hydrocarbons, nitrogen oxides, particulates".
+// A decision for each pollutant, "carbon monoxide, hydrocarbons, nitrogen oxides, particulates" and two more, which no sheet of 20-byte records declares.
 pub struct Decisions {
     pub co: Decision,
     pub hc: Decision,
     pub nox: Decision,
     pub pm: Decision,
+    pub fifth: Decision,
+    pub sixth: Decision,
 }
 
 fn chosen(test: bool, a: Decision, b: Decision) -> Decision
@@ -107,6 +111,8 @@ impl Decisions {
             hc: Decision::Undeclared,
             nox: Decision::Undeclared,
             pm: Decision::Undeclared,
+            fifth: Decision::Undeclared,
+            sixth: Decision::Undeclared,
         }
     }
 
@@ -114,12 +120,28 @@ impl Decisions {
     pub fn with(self, number: u32, d: Decision) -> Decisions
         ensures { λ r. ⌜ r ≡ decisionsWith number d self ⌝ }
     {
-        let Decisions { co, hc, nox, pm } = self;
+        let Decisions {
+            co,
+            hc,
+            nox,
+            pm,
+            fifth,
+            sixth,
+        } = self;
+        // A sheet of 20-byte records never goes in here.
+        if 4 < number {
+            return Decisions {
+                fifth: chosen(number == 5, d, fifth),
+                sixth: chosen(number == 6, d, sixth),
+                ..self
+            };
+        }
         Decisions {
             co: chosen(number == 1, d, co),
             hc: chosen(number == 2, d, hc),
             nox: chosen(number == 3, d, nox),
             pm: chosen(number == 4, d, pm),
+            ..self
         }
     }
 
@@ -127,12 +149,21 @@ impl Decisions {
     pub fn up_to(self, m: u8) -> Decisions
         ensures { λ r. ⌜ (decisionsIs r ≡ map (upTo m) (decisionsIs self)) × (declaredIs r ≡ declaredIs self) ⌝ }
     {
-        let Decisions { co, hc, nox, pm } = self;
+        let Decisions {
+            co,
+            hc,
+            nox,
+            pm,
+            fifth,
+            sixth,
+        } = self;
         Decisions {
             co: co.up_to(m),
             hc: hc.up_to(m),
             nox: nox.up_to(m),
             pm: pm.up_to(m),
+            fifth: fifth.up_to(m),
+            sixth: sixth.up_to(m),
         }
     }
 }
@@ -140,6 +171,7 @@ impl Decisions {
 // The decision of a pollutant after the rows to `rows`, none of which ends the series before its statistics.
 // For `series` alone, with a declared pollutant of a sheet that the check accepts: so it may require.
 pub fn column(
+    size: Size,
     bytes: &[u8],
     start: usize,
     plan: Plan,
@@ -148,27 +180,67 @@ pub fn column(
     deviation: u32,
     rows: usize,
 ) -> Decision
-    requires { ⌜ ColumnRange (now bytes) start plan number limit deviation rows ⌝ }
-    ensures { λ d. ⌜ ColumnIs plan (now (bytes .entry)) number limit deviation rows d ⌝ }
+    requires { ⌜ ColumnRange (widthIs size) (now bytes) start plan number limit deviation rows ⌝ }
+    ensures { λ d. ⌜ ColumnIs (widthIs size) plan (now (bytes .entry)) number limit deviation rows d ⌝ }
 {
     // Plan 3 counts the engines over the limit, and the others take logarithms. A table is chosen here, once for a column, and lent whole.
     match plan {
         Plan::KnownDeviation => {
             let table = known_deviation();
-            logarithms::column(bytes, start, plan, number, limit, deviation, rows, &table)
+            logarithms::column(
+                size,
+                bytes,
+                start,
+                plan,
+                number,
+                limit,
+                deviation,
+                rows,
+                &table,
+            )
         }
         Plan::UnknownDeviation => {
             let table = unknown_deviation();
-            logarithms::column(bytes, start, plan, number, limit, deviation, rows, &table)
+            logarithms::column(
+                size,
+                bytes,
+                start,
+                plan,
+                number,
+                limit,
+                deviation,
+                rows,
+                &table,
+            )
         }
-        Plan::Attributes => count::column(bytes, start, number, limit, rows),
+        Plan::Attributes => count::column(size, bytes, start, number, limit, rows),
         Plan::InService => {
             let table = in_service();
-            logarithms::column(bytes, start, plan, number, limit, deviation, rows, &table)
+            logarithms::column(
+                size,
+                bytes,
+                start,
+                plan,
+                number,
+                limit,
+                deviation,
+                rows,
+                &table,
+            )
         }
         Plan::Corrected => {
             let table = corrected();
-            logarithms::column(bytes, start, plan, number, limit, deviation, rows, &table)
+            logarithms::column(
+                size,
+                bytes,
+                start,
+                plan,
+                number,
+                limit,
+                deviation,
+                rows,
+                &table,
+            )
         }
     }
 }

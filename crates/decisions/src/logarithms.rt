@@ -1,5 +1,6 @@
 // Plans 1, 2, 4 and 5: the sums of the measurements' logarithms and of their squares, and the rows by them.
 ghost use Rattle.plan.specs.Plan.{planIs};
+ghost use Rattle.record.specs.Sizes.{widthIs};
 ghost use Rattle.tables.specs.Tables.{Lent};
 ghost use Rattle.decisions.specs.Column.{ColumnIs, RowFrom};
 ghost use Rattle.decisions.specs.Ranges.{RowRange, LogarithmsRange};
@@ -8,8 +9,8 @@ use crate::fours::four_with;
 use crate::fours::put_four;
 use causes::looks;
 use plan::Plan;
-use record::cause_of;
-use record::record_at;
+use record::Size;
+use record::cause_at;
 use rows::Row;
 
 // What row n of the plan says by the sums; level is the limit's logarithm, and `table` is the plan's, lent.
@@ -36,6 +37,7 @@ fn row(
 
 // A column of these plans, by the plan's table: the sums stand in locals, and the logarithms come in fours.
 pub(crate) fn column(
+    size: Size,
     bytes: &[u8],
     start: usize,
     plan: Plan,
@@ -45,23 +47,23 @@ pub(crate) fn column(
     rows: usize,
     table: &[[i32; 2]],
 ) -> Decision
-    requires { ⌜ LogarithmsRange (now bytes) start plan number limit deviation rows ⌝ }
+    requires { ⌜ LogarithmsRange (widthIs size) (now bytes) start plan number limit deviation rows ⌝ }
     requires { ⌜ Lent (planIs plan) (now table) ⌝ }
-    ensures { λ d. ⌜ ColumnIs plan (now (bytes .entry)) number limit deviation rows d ⌝ }
+    ensures { λ d. ⌜ ColumnIs (widthIs size) plan (now (bytes .entry)) number limit deviation rows d ⌝ }
 {
     if rows < 3 {
         return Decision::Open;
     }
     let mut logs = [0u32; 4];
-    put_four(&mut logs, limit, bytes, start, number, rows, 0);
+    put_four(&mut logs, limit, size, bytes, start, number, rows, 0);
     let level = logs[0] as u64;
     let mut sum: u64 = 0;
     let mut squares: u64 = 0;
     let mut any = false;
     let mut n: usize = 0;
     while n < rows {
-        let newest = cause_of(record_at(bytes, start + n)) != 0;
-        four_with(&mut logs, bytes, start, number, rows, n);
+        let newest = cause_at(size, bytes, start + n) != 0;
+        four_with(&mut logs, size, bytes, start, number, rows, n);
         n += 1;
         let y = logs[n % 4] as u64;
         sum = sum + y;

@@ -5,7 +5,7 @@
 -- contracts of `operations`.)
 use Rattle.arithmetic.proofs.Basics.{ℕ, _≤_, _<_, le-trans, arith, _≡_, refl, sym, ap, _∙_, _⊎_, inl, inr, List, [], length}
 use Rattle.rules.specs.Logarithm.{squarings}
-use Rattle.rules.specs.Sheet.{pollutants, most, records, ofKind}
+use Rattle.rules.specs.Sheet.{pollutants, morePollutants, most, records, ofKind}
 use Rattle.rules.specs.Plans.{lastRow}
 use Rattle.rules.specs.Series.{Pair, Answer, refusal, judgement}
 use Rattle.rules.specs.Refusals.{accepted, refused, check}
@@ -51,7 +51,8 @@ module _ (w q : ℕ) where
           rw (sym (judge-accepted w q b c) ∙ e) at (judgement-range w q (records w b)) in
           inr (v, n, ground, pairs, e, c, r .0, le-trans (r .1) (engines-fit b c), r .2, r .3)
 
--- ---- as the product has it: four pollutants, twenty squarings
+-- ---- as the product has it: four pollutants or six, twenty squarings
 
-pub answered : (b : List ℕ) → Refused pollutants squarings b ⊎ Judged pollutants squarings b
-answered = refused-or-judged pollutants squarings
+module _ (w : ℕ) (either : (w ≡ pollutants) ⊎ (w ≡ morePollutants)) where
+  pub answered : (b : List ℕ) → Refused w squarings b ⊎ Judged w squarings b
+  answered = refused-or-judged w squarings

@@ -1,8 +1,8 @@
 -- Demand 3, "about what judging answers for the bytes of whole sheets, all pollutants together, and not about single rows".
 -- The words are document 01's, defined in rules/specs/Demands. Every list of bytes is meant, whatever w and q; the product's are at the end.
-use Rattle.arithmetic.proofs.Basics.{ℕ, _≤_, arith, _≡_, _⊎_, List}
+use Rattle.arithmetic.proofs.Basics.{ℕ, _≤_, arith, _≡_, _⊎_, ⊎-elim, List}
 use Rattle.rules.specs.Logarithm.{squarings}
-use Rattle.rules.specs.Sheet.{pollutants, records, planNumber}
+use Rattle.rules.specs.Sheet.{pollutants, morePollutants, records, planNumber}
 use Rattle.rules.specs.Plans.{lastRow}
 use Rattle.rules.specs.Operations.{judge}
 use Rattle.rules.specs.Demands.{Accepted, Decided, PassesAt, FailsAt, PassesBy, FailsBy, Begins, enginesOf, planOfSheet}
@@ -32,21 +32,23 @@ module _ (w q : ℕ) where
     pub lower-fails : FailsAt w q S n → FailsBy w q R n
     lower-fails = sheet-fails w q room R S alike lower plan first second n
 
--- ---- as the product has it: four pollutants, twenty squarings
+-- ---- as the product has it: four pollutants or six, twenty squarings; 02, F-10: "Keeping a decision, ending and lowering hold for either size"
 
-pub kept : (R S : List ℕ) → Begins S R → Decided pollutants squarings R → Accepted pollutants squarings S
-    → judge pollutants squarings S ≡ judge pollutants squarings R
-kept = decision-kept pollutants squarings
+module _ (w : ℕ) (either : (w ≡ pollutants) ⊎ (w ≡ morePollutants)) where
+  pub kept : (R S : List ℕ) → Begins S R → Decided w squarings R → Accepted w squarings S → judge w squarings S ≡ judge w squarings R
+  kept = decision-kept w squarings
 
-pub ends : (b : List ℕ) → Accepted pollutants squarings b → enginesOf pollutants b ≡ lastRow (planOfSheet pollutants b)
-    → Decided pollutants squarings b
-ends = series-ends pollutants squarings
+  pub ends : (b : List ℕ) → Accepted w squarings b → enginesOf w b ≡ lastRow (planOfSheet w b) → Decided w squarings b
+  ends = series-ends w squarings
 
-module _ (R S : List ℕ) (alike : Alike pollutants R S) (lower : NoneHigher pollutants R S)
-    (plan : (planNumber (records pollutants R) ≡ 1) ⊎ (planNumber (records pollutants R) ≡ 3))
-    (first : Accepted pollutants squarings R) (second : Accepted pollutants squarings S) (n : ℕ) where
-  pub passes-no-later : PassesAt pollutants squarings R n → PassesBy pollutants squarings S n
-  passes-no-later = lower-passes pollutants squarings (omega arith) R S alike lower plan first second n
+  module _ (R S : List ℕ) (alike : Alike w R S) (lower : NoneHigher w R S)
+      (plan : (planNumber (records w R) ≡ 1) ⊎ (planNumber (records w R) ≡ 3))
+      (first : Accepted w squarings R) (second : Accepted w squarings S) (n : ℕ) where
+    room : 2 ≤ w
+    room = ⊎-elim (λ e. omega arith) (λ e. omega arith) either
 
-  pub fails-no-sooner : FailsAt pollutants squarings S n → FailsBy pollutants squarings R n
-  fails-no-sooner = lower-fails pollutants squarings (omega arith) R S alike lower plan first second n
+    pub passes-no-later : PassesAt w squarings R n → PassesBy w squarings S n
+    passes-no-later = lower-passes w squarings room R S alike lower plan first second n
+
+    pub fails-no-sooner : FailsAt w squarings S n → FailsBy w squarings R n
+    fails-no-sooner = lower-fails w squarings room R S alike lower plan first second n

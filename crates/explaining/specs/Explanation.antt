@@ -1,9 +1,9 @@
--- What the program `verdict` says to people of a refused sheet, beside document 01's line: which record it is, and what the refusal means.
+-- What the program `verdict` says to people of a refused sheet of 20-byte records, beside document 01's line: which record it is, and what the refusal means.
 use Prim.Native.Nat.{ℕ, zero, suc, _+_}
 use mathlib.Core.Bool.{cond}
 use mathlib.Core.List.{List, [], _∷_, _++_}
 use lib.Dec.{eqb}
-use Rattle.rules.specs.Sheet.{pollutants}
+use Rattle.rules.specs.Sheet.{pollutants, recordSize}
 use Rattle.rules.specs.Refusals as rules
 use Rattle.rules.specs.Printed.{decimal}
 use Rattle.reading.specs.declared.Step.{Step}
@@ -24,7 +24,7 @@ isEngine End = 0
 -- the engines among the first k records
 unfoldable pub enginesIn : (b : List ℕ) (k : ℕ) → ℕ
 enginesIn b zero = 0
-enginesIn b (suc k) = enginesIn b k + isEngine (stepAt b k)
+enginesIn b (suc k) = enginesIn b k + isEngine (stepAt recordSize b k)
 
 -- a record by what it is; engines are counted from 1, as on the bench
 abbrev pub name : Step → (engine : ℕ) → List ℕ
@@ -36,7 +36,7 @@ name End engine = ascii "end"
 
 -- record k, "counted from 0"; "for 1, record 0": a refused length names no record
 unfoldable pub place : (b : List ℕ) (number k : ℕ) → List ℕ
-place b number k = cond (eqb number 1) [] (ascii "record " ++ (decimal k ++ (ascii " (" ++ (name (stepAt b k) (enginesIn b (suc k)) ++ ascii "): "))))
+place b number k = cond (eqb number 1) [] (ascii "record " ++ (decimal k ++ (ascii " (" ++ (name (stepAt recordSize b k) (enginesIn b (suc k)) ++ ascii "): "))))
 
 -- ---- the line
 

@@ -1,4 +1,4 @@
-// What the program `verdict` says to people of a refused sheet: which record it is, and what the refusal means.
+// What the program `verdict` says to people of a refused sheet of 20-byte records: which record it is, and what the refusal means.
 ghost use mathlib.Core.Path.{_≡_};
 ghost use Prim.Native.Nat.{suc};
 ghost use Rattle.lines.specs.Writing.{withBytes, Adds, Written};
@@ -10,6 +10,7 @@ use checking::check;
 use lines::Lines;
 use reading::Step;
 use reading::turn_at;
+use record::Size;
 
 // The refusal of a sheet's length, which names no record.
 const LENGTH: u8 = 1;
@@ -22,7 +23,7 @@ fn engines_through(sheet: &[u8], record: u8) -> u32
     let mut engines: u32 = 0;
     let mut k: usize = 0;
     while k <= last {
-        let turn = turn_at(sheet, k);
+        let turn = turn_at(Size::TWENTY, sheet, k);
         let step = turn.step;
         k += 1;
         match step {
@@ -54,7 +55,7 @@ fn with_place(lines: Lines, sheet: &[u8], refusal: Refusal) -> Lines
         return lines;
     }
     let record = refusal.place;
-    let turn = turn_at(sheet, record as usize);
+    let turn = turn_at(Size::TWENTY, sheet, record as usize);
     let step = turn.step;
     let engine = engines_through(sheet, record);
     let lines = lines
@@ -113,7 +114,7 @@ fn with_sentence(lines: Lines, number: u8) -> Lines
 pub fn explain(sheet: &[u8]) -> Lines
     ensures { λ l. ⌜ Written l (explained (now (sheet .entry))) ⌝ }
 {
-    let checked = check(sheet);
+    let checked = check(Size::TWENTY, sheet);
     let Checked::Refused(refusal) = checked else {
         return Lines::nothing();
     };

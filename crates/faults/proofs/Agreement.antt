@@ -3,7 +3,7 @@ use Rattle.arithmetic.proofs.Basics.{ℕ, _+_, _≤_, arith, _≡_, refl, sym, 
 use Rattle.arithmetic.proofs.Basics.{length, length-append, eqb-true, eqb-false, ne-eqb, eq-eqb, not-false, lt-ltb, never, or-false, or-same, or-true}
 use Rattle.arithmetic.proofs.Basics.{in-range, and-right, by-test, any-snoc}
 use Rattle.rules.specs.Tools.{any, within}
-use Rattle.rules.specs.Sheet.{Record, pollutants, pollutantKind, engineKind, stopKind, kind, number, plan, limit, ofKind, engines, stopped, planNumber}
+use Rattle.rules.specs.Sheet.{Record, pollutantKind, engineKind, stopKind, kind, number, plan, limit, ofKind, engines, stopped, planNumber}
 use Rattle.rules.specs.Sheet.{pollutant, declared}
 use Rattle.rules.specs.Plans.{planOf, lastRow, planCount}
 use Rattle.rules.specs.Refusals.{misplaced, newest, badNumber, badPlan, badLimit, badDeviation, badCause, tooMany, Fault, fault, first, faults, faultOf}
@@ -11,10 +11,13 @@ use Rattle.accepted.proofs.Faultless.{Clean, clean-join, Faultless, faultless, 
 use Rattle.accepted.proofs.Causes.{plan-append}
 use Rattle.accepted.proofs.Engines.{counts}
 use Rattle.accepted.proofs.ByNumber.{limitOf, InOrder, in-order, declared-one, declared-other, newest-snoc, limit-most}
+use Rattle.record.specs.declared.Size.{Size}
+use Rattle.record.specs.Sizes.{widthIs}
 use Rattle.record.specs.Quantities.{quantity, quantitiesWith}
+use Rattle.record.proofs.Sizes.{width-range}
 use Rattle.faults.specs.declared.Summary.{Summary}
 use Rattle.faults.specs.State.{nothing, summaryWith, LimitRange, Limits}
-use Rattle.faults.specs.Faults.{badCauseBy, pollutantBy, pollutantFault, engineFault, stopFault, faultBy}
+use Rattle.faults.specs.Faults.{badMeasurementBy, badBehind, badCauseBy, pollutantBy, pollutantFault, engineFault, stopFault, faultBy}
 use Rattle.faults.proofs.Unused.{pollutant-unused, engine-unused, stop-unused}
 use Rattle.faults.proofs.Declared.{zero-quantity, quantity-with, order-last, limit-snoc, measurement-agrees, gross-agrees}
 
@@ -22,9 +25,9 @@ abbrev pub isEmpty : List Record → Bool
 isEmpty [] = true
 isEmpty (r ∷ rs) = false
 
--- the records before have no fault, and the summary s says of them what is asked of them
-pub record Agrees (before : List Record) (s : Summary) : Type 0 where
-  pub clean : Clean pollutants [] before
+-- the records before, of the size z, have no fault, and the summary s says of them what is asked of them
+pub record Agrees (z : Size) (before : List Record) (s : Summary) : Type 0 where
+  pub clean : Clean (widthIs z) [] before
   pub emptyIs : eqb (s .kind) 0 ≡ isEmpty before
   pub otherIs : ltb pollutantKind (s .kind) ≡ any isOther before
   pub stoppedIs : eqb (s .kind) stopKind ≡ stopped before
@@ -35,9 +38,9 @@ pub record Agrees (before : List Record) (s : Summary) : Type 0 where
   pub headIs : s .head ≡ length (ofKind pollutantKind before)
   pub enginesIs : s .engines ≡ length (engines before)
 
-pub start : Agrees [] nothing
+pub start : (z : Size) → Agrees z [] nothing
 unfolding planNumber plan declared ofKind planOf
-start =
+start z =
     record {
       clean = tt;
       emptyIs = refl;
@@ -54,14 +57,14 @@ start =
 -- ---- each test that looks back
 
 -- 3, of an engine or a stop
-misplaced-agrees : (before : List Record) (s : Summary) → Agrees before s → (r : Record) → eqb (kind r) pollutantKind ≡ false
+misplaced-agrees : {z : Size} (before : List Record) (s : Summary) → Agrees z before s → (r : Record) → eqb (kind r) pollutantKind ≡ false
     → eqb (s .kind) 0 || eqb (s .kind) stopKind ≡ misplaced before r
 unfolding misplaced
 misplaced-agrees [] s a r e = rw (a .emptyIs, e) refl
 misplaced-agrees (b ∷ before) s a r e = rw (a .emptyIs, a .stoppedIs, e) refl
 
 -- 3, of a pollutant: a stop is another kind too
-late-agrees : (before : List Record) (s : Summary) → Agrees before s → (r : Record) → eqb (kind r) pollutantKind ≡ true
+late-agrees : {z : Size} (before : List Record) (s : Summary) → Agrees z before s → (r : Record) → eqb (kind r) pollutantKind ≡ true
     → ltb pollutantKind (s .kind) ≡ misplaced before r
 unfolding misplaced
 late-agrees [] s a r e = rw (a .otherIs, e) refl
@@ -72,11 +75,15 @@ late-agrees (b ∷ before) s a r e = stop-too (s .kind) ∙ rw (a .otherIs, a .s
         by-test (λ t. ltb pollutantKind k ≡ ltb pollutantKind k || t) (eqb k stopKind) (λ q. rw (eqb-true k stopKind q) refl)
         (λ q. sym (or-same (ltb pollutantKind k)))
 
-plan-agrees : (before : List Record) (s : Summary) → Agrees before s → (r : Record)
+plan-agrees : {z : Size} (before : List Record) (s : Summary) → Agrees z before s → (r : Record)
     → not (within 1 planCount (plan r)) || not (eqb (s .kind) 0) && not (eqb (plan r) (s .plan)) ≡ badPlan before r
 unfolding badPlan
 plan-agrees [] s a r = rw (a .emptyIs) (or-same (not (within 1 planCount (plan r))))
 plan-agrees (b ∷ before) s a r = rw (a .emptyIs, a .planIs) refl
+
+both-bad : (a b : Bool) (n x : ℕ) → cond a n (cond b n x) ≡ cond (a || b) n x
+both-bad true b n x = refl
+both-bad false b n x = refl
 
 either : (t x y : Bool) → t && x || not t && y ≡ cond t x y
 either true x y = or-same x
@@ -93,63 +100,64 @@ unfolding misplaced
 not-first [] r e h = never (sym (ap not h) ∙ e)
 not-first (b ∷ before) r e h = refl
 
-module _ {before : List Record} {s : Summary} (a : Agrees before s) where
-  order : InOrder pollutants 0 (declared before)
+module _ {z : Size} {before : List Record} {s : Summary} (a : Agrees z before s) where
+  order : InOrder (widthIs z) 0 (declared before)
   unfolding declared ofKind
-  order = in-order pollutants [] before (a .clean)
+  order = in-order (widthIs z) [] before (a .clean)
 
   -- the limits are in range, and no count is above the number of records
   pub limits-fit : Limits (s .limits)
   unfolding quantity
-  limits-fit = record { co = fits 1; hc = fits 2; nox = fits 3; pm = fits 4 }
+  limits-fit = record { co = fits 1; hc = fits 2; nox = fits 3; pm = fits 4; fifth = fits 5; sixth = fits 6 }
     where
       fits : (p : ℕ) → LimitRange (quantity (s .limits) p)
-      fits p = record { most = rw (a .limitIs p) (limit-most pollutants 0 (declared before) order p) }
+      fits p = record { most = rw (a .limitIs p) (limit-most (widthIs z) 0 (declared before) order p) }
 
   pub counts-fit : s .head + s .engines ≤ length before
-  counts-fit = omega (arith, a .headIs, a .enginesIs, counts pollutants before (a .clean))
+  counts-fit = omega (arith, a .headIs, a .enginesIs, counts (widthIs z) before (a .clean))
 
   module _ (r : Record) where
-    pollutant-agrees : kind r ≡ pollutantKind → pollutantFault s r ≡ faultOf pollutants before r
+    pollutant-agrees : kind r ≡ pollutantKind → pollutantFault z s r ≡ faultOf (widthIs z) before r
     unfolding pollutantFault pollutantBy faultOf faults badNumber badLimit badDeviation
     pollutant-agrees k =
-        rw (late-agrees before s a r (eq-eqb (kind r) pollutantKind k), a .numberIs, plan-agrees before s a r, either, pollutant-unused r k, k)
+        rw (late-agrees before s a r (eq-eqb (kind r) pollutantKind k), a .numberIs, plan-agrees before s a r, either, pollutant-unused r z k, k)
         (simp first-fault)
 
-    cause-agrees : badCauseBy s r ≡ badCause (planNumber before) (declared before) r
+    cause-agrees : badCauseBy z s r ≡ badCause (planNumber before) (declared before) r
     unfolding badCauseBy badCause
-    cause-agrees = rw (a .planIs, gross-agrees (declared before) (s .limits) order (a .limitIs) r) refl
+    cause-agrees = rw (a .planIs, gross-agrees (declared before) (s .limits) (a .limitIs) r z order) refl
 
-    engine-agrees : kind r ≡ engineKind → engineFault s r ≡ faultOf pollutants before r
+    engine-agrees : kind r ≡ engineKind → engineFault z s r ≡ faultOf (widthIs z) before r
     unfolding engineFault faultOf faults tooMany
     engine-agrees k =
         let other : eqb (kind r) pollutantKind ≡ false = rw k refl in
-        by-test (λ t. engineFault s r ≡ faultOf pollutants before r) (misplaced before r)
+        by-test (λ t. engineFault z s r ≡ faultOf (widthIs z) before r) (misplaced before r)
         (λ e. rw (misplaced-agrees before s a r other, e, k) refl)
         (λ e.
         rw (
           misplaced-agrees before s a r other,
-          measurement-agrees (declared before) (s .limits) order (a .limitIs) r,
+          both-bad (badMeasurementBy (s .limits) r) (badBehind z (s .limits) r) 8 _,
+          measurement-agrees (declared before) (s .limits) (a .limitIs) r z order,
           cause-agrees,
           a .lastRowIs (a .emptyIs ∙ not-first before r e other),
           a .planIs,
           a .enginesIs,
-          engine-unused r k,
+          engine-unused r (widthIs z) k,
           k,
         )
         (simp first-fault))
 
-    stop-agrees : kind r ≡ stopKind → stopFault s r ≡ faultOf pollutants before r
+    stop-agrees : kind r ≡ stopKind → stopFault z s r ≡ faultOf (widthIs z) before r
     unfolding stopFault faultOf faults
     stop-agrees k =
         let other : eqb (kind r) pollutantKind ≡ false = rw k refl in
-        rw (misplaced-agrees before s a r other, a .planIs, stop-unused r k, k) (simp first-fault)
+        rw (misplaced-agrees before s a r other, a .planIs, stop-unused r z k, k) (simp first-fault)
 
-    no-kind : within pollutantKind stopKind (kind r) ≡ false → 2 ≡ faultOf pollutants before r
+    no-kind : within pollutantKind stopKind (kind r) ≡ false → 2 ≡ faultOf (widthIs z) before r
     unfolding faultOf faults
     no-kind w = rw w refl
 
-    pub fault-agrees : faultBy s r ≡ faultOf pollutants before r
+    pub fault-agrees : faultBy z s r ≡ faultOf (widthIs z) before r
     unfolding faultBy
     fault-agrees =
         by-kind (kind r) (λ k. rw k (pollutant-agrees k)) (λ k. rw k (engine-agrees k)) (λ k. rw k (stop-agrees k))
@@ -174,9 +182,9 @@ unfolding badPlan planNumber
 plan-one [] r e = refl
 plan-one (b ∷ before) r e = eqb-true (plan r) (plan b) (not-false (eqb (plan r) (plan b)) (or-false (not (within 1 planCount (plan r))) _ e .1))
 
-module _ {before : List Record} {s : Summary} (a : Agrees before s) (r : Record) (faultIs : faultOf pollutants before r ≡ 0) where
-  f : Faultless pollutants before r
-  f = faultless pollutants before r faultIs
+module _ {z : Size} {before : List Record} {s : Summary} (a : Agrees z before s) (r : Record) (faultIs : faultOf (widthIs z) before r ≡ 0) where
+  f : Faultless (widthIs z) before r
+  f = faultless (widthIs z) before r faultIs
 
   range : (pollutantKind ≤ kind r) × (kind r ≤ stopKind)
   range = in-range pollutantKind stopKind (kind r) (f .kinds)
@@ -184,8 +192,8 @@ module _ {before : List Record} {s : Summary} (a : Agrees before s) (r : Record)
   placed : (eqb (kind r) pollutantKind && any isOther before ≡ false) × (stopped before ≡ false)
   placed = placed-so before r (f .placed)
 
-  clean-more : Clean pollutants [] (before ++ (r ∷ []))
-  clean-more = clean-join pollutants [] before (r ∷ []) (a .clean) (faultIs, tt)
+  clean-more : Clean (widthIs z) [] (before ++ (r ∷ []))
+  clean-more = clean-join (widthIs z) [] before (r ∷ []) (a .clean) (faultIs, tt)
 
   other-more : ltb pollutantKind (kind r) ≡ any isOther (before ++ (r ∷ []))
   other-more =
@@ -203,12 +211,12 @@ module _ {before : List Record} {s : Summary} (a : Agrees before s) (r : Record)
       → quantity (quantitiesWith (s .limits) (number r) (limit r)) p ≡ limitOf p (declared (before ++ (r ∷ [])))
   unfolding pollutant declared ofKind
   limits-more p e =
-      let o : InOrder pollutants 0 (declared before ++ (pollutant r ∷ [])) = rw (declared-one before r e) at (in-order pollutants [] (before ++ (r ∷ [])) clean-more) in
-      let n = order-last 0 (declared before) (pollutant r) o in
-      rw (declared-one before r e, limit-snoc 0 (declared before) (pollutant r) o p, ← a .limitIs p)
-      (quantity-with (number r) (limit r) (n .0) (n .1) (s .limits) p)
+      let o : InOrder (widthIs z) 0 (declared before ++ (pollutant r ∷ [])) = rw (declared-one before r e) at (in-order (widthIs z) [] (before ++ (r ∷ [])) clean-more) in
+      let n = order-last (widthIs z) 0 (declared before) (pollutant r) o in
+      rw (declared-one before r e, limit-snoc (widthIs z) 0 (declared before) (pollutant r) o p, ← a .limitIs p)
+      (quantity-with (number r) (limit r) (n .0) (omega (arith, n .1, width-range z)) (s .limits) p)
 
-  pub step : Agrees (before ++ (r ∷ [])) (summaryWith s r)
+  pub step : Agrees z (before ++ (r ∷ [])) (summaryWith s r)
   unfolding summaryWith pollutant
   step =
       let isOne = eqb (kind r) pollutantKind in

@@ -1,9 +1,12 @@
 -- Refusal 12 by kind: bytes that are read as one number are all zero exactly if the number is.
-use Rattle.arithmetic.proofs.Basics.{ℕ, zero, suc, _+_, _*_, mul-zero, mul-suc, arith, _≡_, refl, _∙_, Bool, false, not, _||_, eqb, take, drop, ne-eqb, or-same}
+use Rattle.arithmetic.proofs.Basics.{ℕ, zero, suc, _+_, _*_, add-one, mul-zero, mul-suc, arith, _≡_, refl, _∙_, Bool, false, not, _||_, eqb, take, drop, ne-eqb, or-same}
 use Rattle.arithmetic.proofs.Basics.{or-assoc, any-part}
-use Rattle.rules.specs.Tools.{any, byte}
-use Rattle.rules.specs.Sheet.{Record, pollutants, pollutantKind, engineKind, stopKind, kind}
+use Rattle.rules.specs.Tools.{any, byte, four}
+use Rattle.rules.specs.Sheet.{Record, pollutantKind, engineKind, stopKind, kind}
 use Rattle.rules.specs.Refusals.{nonzero, unused}
+use Rattle.record.specs.declared.Size.{Size}
+use Rattle.record.specs.declared.Size.the-variants.{Twenty, TwentyEight}
+use Rattle.record.specs.Sizes.{widthIs}
 use Rattle.faults.specs.Faults.{pollutantUnused, engineUnused, stopUnused}
 
 -- a number x below the byte y: one number, zero exactly if both are
@@ -22,14 +25,24 @@ module _ (r : Record) where
   one-by-one zero i = refl
   one-by-one (suc n) i = any-part (λ x. not (eqb x 0)) 0 refl n i r ∙ rw (one-by-one n (suc i)) refl
 
-  pub pollutant-unused : kind r ≡ pollutantKind → pollutantUnused r ≡ unused pollutants r
-  unfolding unused nonzero
-  pollutant-unused k = rw (k, one-by-one 1 3, one-by-one 8 12) (simp (joined 255, joined 65535, joined 16777215, or-same, or-assoc))
+  -- four of them as one number
+  word : (i n : ℕ) → some i (suc (suc (suc (suc n)))) ≡ not (eqb (four r i) 0) || some (suc (suc (suc (suc i)))) n
+  word i n =
+      let next : i + 2 ≡ suc (suc i) = omega arith in
+      let last : i + 3 ≡ suc (suc (suc i)) = omega arith in
+      rw (joined 16777215, joined 65535, joined 255, or-assoc, or-assoc, or-assoc, add-one i, next, last) refl
 
-  pub engine-unused : kind r ≡ engineKind → engineUnused r ≡ unused pollutants r
+  pub pollutant-unused : (z : Size) → kind r ≡ pollutantKind → pollutantUnused z r ≡ unused (widthIs z) r
   unfolding unused nonzero
-  engine-unused k = rw (k, one-by-one 1 1) (simp or-same)
+  pollutant-unused Twenty k = rw (k, one-by-one 1 3, one-by-one 8 12, word 12 4, word 16 0) (simp (or-same, or-assoc))
+  pollutant-unused TwentyEight k = rw (k, one-by-one 1 3, one-by-one 16 12, word 12 12, word 16 8, word 20 4, word 24 0) (simp (or-same, or-assoc))
 
-  pub stop-unused : kind r ≡ stopKind → stopUnused r ≡ unused pollutants r
+  pub engine-unused : (w : ℕ) → kind r ≡ engineKind → engineUnused r ≡ unused w r
   unfolding unused nonzero
-  stop-unused k = rw (k, one-by-one 19 1) (simp (joined 255, joined 65535, joined 16777215, or-same, or-assoc))
+  engine-unused w k = rw (k, one-by-one 1 1) (simp or-same)
+
+  pub stop-unused : (z : Size) → kind r ≡ stopKind → stopUnused z r ≡ unused (widthIs z) r
+  unfolding unused nonzero
+  stop-unused Twenty k = rw (k, one-by-one 19 1, word 4 12, word 8 8, word 12 4, word 16 0) (simp (joined 255, or-same, or-assoc))
+  stop-unused TwentyEight k =
+      rw (k, one-by-one 27 1, word 4 20, word 8 16, word 12 12, word 16 8, word 20 4, word 24 0) (simp (joined 255, or-same, or-assoc))

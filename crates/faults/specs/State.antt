@@ -17,7 +17,7 @@ nothing =
       plan = 0;
       «last_row» = 0;
       number = 0;
-      limits = record { co = 0; hc = 0; nox = 0; pm = 0 };
+      limits = record { co = 0; hc = 0; nox = 0; pm = 0; fifth = 0; sixth = 0 };
       head = 0;
       engines = 0;
     }
@@ -35,7 +35,7 @@ summaryWith s r =
       engines = cond (eqb (kind r) engineKind) (s .engines + 1) (s .engines);
     }
 
--- what a summary must leave room for, so that another record is read: the counts of a sheet are at most 37
+-- what a summary must leave room for, so that another record is read: the counts of a sheet are at most 39
 pub record Room (s : Summary) : Type 0 where
   pub head : s .head < 1000
   pub engines : s .engines < 1000
@@ -50,3 +50,5 @@ pub record Limits (limits : Quantities) : Type 0 where
   pub hc : LimitRange (limits .hc)
   pub nox : LimitRange (limits .nox)
   pub pm : LimitRange (limits .pm)
+  pub fifth : LimitRange (limits .fifth)
+  pub sixth : LimitRange (limits .sixth)

@@ -2,14 +2,15 @@
 ghost use mathlib.Core.Path.{_≡_};
 ghost use Rattle.rules.specs.Sheet.{measurement};
 ghost use Rattle.faults.specs.State.{LimitRange, Limits};
-ghost use Rattle.faults.specs.Faults.{badValueBy, badMeasurementBy, exceeds, grossBy, badCauseBy};
-ghost use Rattle.faults.specs.Faults.{pollutantBy, pollutantFault, engineFault, stopUnused, stopFault, faultBy};
+ghost use Rattle.faults.specs.Faults.{badValueBy, badBehind, badMeasurementBy, exceeds, exceedsBehind, grossBy, badCauseBy};
+ghost use Rattle.faults.specs.Faults.{unusedBehind, pollutantBy, pollutantFault, engineFault, stopUnused, stopFault, faultBy};
 use crate::Summary;
 use plan::Plan;
 use record::ENGINE;
 use record::POLLUTANT;
 use record::Quantities;
 use record::STOP;
+use record::Size;
 use record::byte_at;
 use record::cause_of;
 use record::deviation_of;
@@ -28,15 +29,23 @@ const GREATEST_DEVIATION: u32 = 4_000_000;
 const GREATEST_CAUSE: u32 = 65_534;
 
 // The lowest refusal of a pollutant, by its numbers and by whether another byte of it is not zero.
-fn pollutant_by(s: Summary, number: u32, plan: u32, limit: u32, deviation: u32, unused: bool) -> u8
-    ensures { λ n. ⌜ n ≡ pollutantBy s number plan limit deviation unused ⌝ }
+fn pollutant_by(
+    pollutants: u32,
+    s: Summary,
+    number: u32,
+    plan: u32,
+    limit: u32,
+    deviation: u32,
+    unused: bool,
+) -> u8
+    ensures { λ n. ⌜ n ≡ pollutantBy pollutants s number plan limit deviation unused ⌝ }
 {
     // "3, .. kind 1 after another kind"
     if POLLUTANT < s.kind {
         return 3;
     }
-    // "4, pollutant number not 1 to 4 or not above the one before"
-    if !((1 <= number) & (number <= 4)) | (number <= s.number) {
+    // "4, pollutant number not 1 to 4 or not above the one before"; 02, F-10: "pollutant numbers run to 6"
+    if !((1 <= number) & (number <= pollutants)) | (number <= s.number) {
         return 4;
     }
     // "5, plan not 1 to 4 or unlike the first"; 02, F-6: "Refusal 5 admits plan 5."
@@ -61,12 +70,26 @@ fn pollutant_by(s: Summary, number: u32, plan: u32, limit: u32, deviation: u32, 
     0
 }
 
-// The lowest refusal of a pollutant. "Byte 3 and bytes 12-19 are zero."
-fn pollutant_fault(s: Summary, r: &[u8]) -> u8
-    ensures { λ n. ⌜ n ≡ pollutantFault s (now (r .entry)) ⌝ }
+// Some byte behind the first 20 is not zero, which a record of 28 bytes alone has.
+fn unused_behind(size: Size, r: &[u8]) -> bool
+    ensures { λ b. ⌜ b ≡ unusedBehind size (now (r .entry)) ⌝ }
 {
-    let unused = (byte_at(r, 3) != 0) | (u32_at(r, 12) != 0) | (u32_at(r, 16) != 0);
+    match size {
+        Size::Twenty => false,
+        Size::TwentyEight => (u32_at(r, 20) != 0) | (u32_at(r, 24) != 0),
+    }
+}
+
+// The lowest refusal of a pollutant. "Byte 3 and bytes 12-19 are zero."; 02, F-10: "the new ones zero".
+fn pollutant_fault(size: Size, s: Summary, r: &[u8]) -> u8
+    ensures { λ n. ⌜ n ≡ pollutantFault size s (now (r .entry)) ⌝ }
+{
+    let unused = (byte_at(r, 3) != 0)
+        | (u32_at(r, 12) != 0)
+        | (u32_at(r, 16) != 0)
+        | unused_behind(size, r);
     pollutant_by(
+        size.pollutants(),
         s,
         number_of(r),
         plan_of(r),
@@ -88,7 +111,7 @@ fn bad_value(limit: u32, r: &[u8], p: u32) -> bool
     }
 }
 
-// "8, measurement, also one not zero of an undeclared pollutant"
+// "8, measurement, also one not zero of an undeclared pollutant", of pollutants 1 to 4.
 fn bad_measurement(limits: Quantities, r: &[u8]) -> bool
     ensures { λ b. ⌜ b ≡ badMeasurementBy limits (now (r .entry)) ⌝ }
 {
@@ -96,6 +119,16 @@ fn bad_measurement(limits: Quantities, r: &[u8]) -> bool
         | bad_value(limits.hc, r, 2)
         | bad_value(limits.nox, r, 3)
         | bad_value(limits.pm, r, 4)
+}
+
+// The same of pollutants 5 and 6, which a record of 28 bytes alone has measurements of.
+fn bad_behind(size: Size, limits: Quantities, r: &[u8]) -> bool
+    ensures { λ b. ⌜ b ≡ badBehind size limits (now (r .entry)) ⌝ }
+{
+    match size {
+        Size::Twenty => false,
+        Size::TwentyEight => bad_value(limits.fifth, r, 5) | bad_value(limits.sixth, r, 6),
+    }
 }
 
 // "2x > 3L", of a declared pollutant p: x is above L and half of L, rounded down, which stays within 32 bits.
@@ -106,28 +139,40 @@ fn exceeds(limit: u32, r: &[u8], p: u32) -> bool
     (limit != 0) & (limit + limit / 2 < measurement_of(r, p))
 }
 
-// "A gross emitter is a vehicle with 2x > 3L for some pollutant"
-fn is_gross(limits: Quantities, r: &[u8]) -> bool
+// The same for pollutant 5 or 6.
+fn exceeds_behind(size: Size, limits: Quantities, r: &[u8]) -> bool
     requires { ⌜ Limits limits ⌝ }
-    ensures { λ b. ⌜ b ≡ grossBy limits (now (r .entry)) ⌝ }
+    ensures { λ b. ⌜ b ≡ exceedsBehind size limits (now (r .entry)) ⌝ }
+{
+    match size {
+        Size::Twenty => false,
+        Size::TwentyEight => exceeds(limits.fifth, r, 5) | exceeds(limits.sixth, r, 6),
+    }
+}
+
+// "A gross emitter is a vehicle with 2x > 3L for some pollutant"
+fn is_gross(size: Size, limits: Quantities, r: &[u8]) -> bool
+    requires { ⌜ Limits limits ⌝ }
+    ensures { λ b. ⌜ b ≡ grossBy size limits (now (r .entry)) ⌝ }
 {
     exceeds(limits.co, r, 1)
         | exceeds(limits.hc, r, 2)
         | exceeds(limits.nox, r, 3)
         | exceeds(limits.pm, r, 4)
+        | exceeds_behind(size, limits, r)
 }
 
 // "9, cause": "In plan 4 its cause is 1 to 65,534, any other vehicle's is 0; in plans 1 to 3 cause is 0.", and in plan 5.
-fn bad_cause(s: Summary, r: &[u8]) -> bool
+fn bad_cause(size: Size, s: Summary, r: &[u8]) -> bool
     requires { ⌜ Limits (s .limits) ⌝ }
-    ensures { λ b. ⌜ b ≡ badCauseBy s (now (r .entry)) ⌝ }
+    ensures { λ b. ⌜ b ≡ badCauseBy size s (now (r .entry)) ⌝ }
 {
     let limits = s.limits;
     let cause = cause_of(r);
     if s.plan != Plan::IN_SERVICE {
         return cause != 0;
     }
-    if is_gross(limits, r) {
+    if is_gross(size, limits, r) {
         !((1 <= cause) & (cause <= GREATEST_CAUSE))
     } else {
         cause != 0
@@ -135,9 +180,9 @@ fn bad_cause(s: Summary, r: &[u8]) -> bool
 }
 
 // The lowest refusal of an engine.
-fn engine_fault(s: Summary, r: &[u8]) -> u8
+fn engine_fault(size: Size, s: Summary, r: &[u8]) -> u8
     requires { ⌜ Limits (s .limits) ⌝ }
-    ensures { λ n. ⌜ n ≡ engineFault s (now (r .entry)) ⌝ }
+    ensures { λ n. ⌜ n ≡ engineFault size s (now (r .entry)) ⌝ }
 {
     let limits = s.limits;
     // "3, first record not kind 1 .. or anything after kind 3"
@@ -147,7 +192,10 @@ fn engine_fault(s: Summary, r: &[u8]) -> u8
     if bad_measurement(limits, r) {
         return 8;
     }
-    if bad_cause(s, r) {
+    if bad_behind(size, limits, r) {
+        return 8;
+    }
+    if bad_cause(size, s, r) {
         return 9;
     }
     // "10, more engines than the last row"
@@ -161,9 +209,9 @@ fn engine_fault(s: Summary, r: &[u8]) -> u8
     0
 }
 
-// "12, another byte that must be zero", of a stop: "bytes 1-19 zero"
-fn stop_unused(r: &[u8]) -> bool
-    ensures { λ b. ⌜ b ≡ stopUnused (now (r .entry)) ⌝ }
+// "12, another byte that must be zero", of a stop: "bytes 1-19 zero"; 02, F-10: "the new ones zero"
+fn stop_unused(size: Size, r: &[u8]) -> bool
+    ensures { λ b. ⌜ b ≡ stopUnused size (now (r .entry)) ⌝ }
 {
     (byte_at(r, 1) != 0)
         | (u16_at(r, 2) != 0)
@@ -171,11 +219,12 @@ fn stop_unused(r: &[u8]) -> bool
         | (u32_at(r, 8) != 0)
         | (u32_at(r, 12) != 0)
         | (u32_at(r, 16) != 0)
+        | unused_behind(size, r)
 }
 
 // The lowest refusal of a stop.
-fn stop_fault(s: Summary, r: &[u8]) -> u8
-    ensures { λ n. ⌜ n ≡ stopFault s (now (r .entry)) ⌝ }
+fn stop_fault(size: Size, s: Summary, r: &[u8]) -> u8
+    ensures { λ n. ⌜ n ≡ stopFault size s (now (r .entry)) ⌝ }
 {
     // "3, first record not kind 1 .. or anything after kind 3"
     if (s.kind == 0) | (s.kind == STOP) {
@@ -185,7 +234,7 @@ fn stop_fault(s: Summary, r: &[u8]) -> u8
     if s.plan == Plan::IN_SERVICE {
         return 11;
     }
-    if stop_unused(r) {
+    if stop_unused(size, r) {
         return 12;
     }
     0
@@ -194,17 +243,17 @@ fn stop_fault(s: Summary, r: &[u8]) -> u8
 // The lowest refusal number of the record r after those of which s tells, 0 where it has no fault; "2, kind not 1 to 3".
 // Engines are asked for first, since most records are engines.
 // For `checking` alone, whose loop reads on only behind limits that are in range: so it may require.
-pub fn fault_of(s: Summary, r: &[u8]) -> u8
+pub fn fault_of(size: Size, s: Summary, r: &[u8]) -> u8
     requires { ⌜ Limits (s .limits) ⌝ }
-    ensures { λ n. ⌜ n ≡ faultBy s (now (r .entry)) ⌝ }
+    ensures { λ n. ⌜ n ≡ faultBy size s (now (r .entry)) ⌝ }
 {
     let kind = kind_of(r);
     if kind == ENGINE {
-        engine_fault(s, r)
+        engine_fault(size, s, r)
     } else if kind == POLLUTANT {
-        pollutant_fault(s, r)
+        pollutant_fault(size, s, r)
     } else if kind == STOP {
-        stop_fault(s, r)
+        stop_fault(size, s, r)
     } else {
         2
     }

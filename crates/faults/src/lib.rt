@@ -40,6 +40,8 @@ impl Summary {
             hc: 0,
             nox: 0,
             pm: 0,
+            fifth: 0,
+            sixth: 0,
         };
         Summary {
             kind: 0,
@@ -53,7 +55,7 @@ impl Summary {
     }
 
     // What is said once the record r, which has no fault, is read too.
-    // For `checking` alone, whose loop reads at most 37 records after at most 37, so that no count overflows: so it may require.
+    // For `checking` alone, whose loop reads at most 39 records after at most 39, so that no count overflows: so it may require.
     pub fn with(mut self, r: &[u8]) -> Summary
         requires { ⌜ Room self ⌝ }
         ensures { λ t. ⌜ t ≡ summaryWith self (now (r .entry)) ⌝ }

@@ -1,34 +1,37 @@
 // The operations that write into lent memory: append adds a record to a sheet, report writes what judging answers.
 ghost use mathlib.Core.Path.{_≡_};
 ghost use Rattle.rules.specs.Logarithm.{squarings};
-ghost use Rattle.rules.specs.Sheet.{pollutants};
+ghost use Rattle.rules.specs.Sheet.{morePollutants};
 ghost use Rattle.rules.specs.Operations as rules;
+ghost use Rattle.rules.specs.Sizes.{appendSized, appendedSized, reportSized, reportedSized};
 ghost use Rattle.series.specs.Answers.{judgementIs};
 ghost use Rattle.operations.specs.Outcomes.{outcomeIs, checkIs, judgedCheck};
 use checking::Checked;
 use checking::Refusal;
 use checking::check_joined;
 use decisions::Decisions;
+use record::Named;
+use record::Size;
 use series::Judged;
 use series::Judgement;
 use series::Numbers;
-use series::judge;
+use series::judge_sheet;
 
-// What append and report come to: done, or the refusal that they return.
+// What append and report come to, and the converter: done, or the refusal that they return.
 pub enum Outcome {
     Done,
     Refused(Refusal),
 }
 
-// "A refusal that names no record .. returns record 0."
-fn refused(number: u8) -> Outcome
+// Refused with a number that names no record.
+pub fn refused(number: u8) -> Outcome
     ensures { λ o. ⌜ o ≡ Outcome.Refused (record { number = number; place = 0 }) ⌝ }
 {
-    Outcome::Refused(Refusal { number, place: 0 })
+    Outcome::Refused(Refusal::of_no_record(number))
 }
 
 // The check's answer without what an accepted sheet says.
-fn checked_outcome(checked: Checked) -> Outcome
+pub fn checked_outcome(checked: Checked) -> Outcome
     ensures { λ o. ⌜ outcomeIs o ≡ checkIs checked ⌝ }
 {
     match checked {
@@ -38,21 +41,26 @@ fn checked_outcome(checked: Checked) -> Outcome
 }
 
 // "Append adds a record to the sheet in the first u bytes of a lent buffer."
-pub fn append(buffer: &mut [u8], used: usize, added: &[u8]) -> Outcome
-    ensures { λ o. ⌜ outcomeIs o ≡ rules.append pollutants (now (buffer .entry)) used (now (added .entry)) ⌝ }
-    ensures { λ _. ⌜ now (buffer .exit) ≡ rules.appended pollutants (now (buffer .entry)) used (now (added .entry)) ⌝ }
+pub fn append(size: usize, buffer: &mut [u8], used: usize, added: &[u8]) -> Outcome
+    ensures { λ o. ⌜ outcomeIs o ≡ appendSized size (now (buffer .entry)) used (now (added .entry)) ⌝ }
+    ensures { λ _. ⌜ now (buffer .exit) ≡ appendedSized size (now (buffer .entry)) used (now (added .entry)) ⌝ }
 {
-    if added.len() != record::SIZE {
+    // "30, size not 20 or 28, before every other"
+    let Named::Known(size) = Size::of(size) else {
+        return refused(30);
+    };
+    // "14, record not 20 bytes"; 02, F-10: "13 to 15 count 28 bytes for the new size"
+    if added.len() != size.bytes() {
         return refused(14);
     }
     // "13, fewer than 20 bytes after u, or u beyond the buffer"
     if buffer.len() < used {
         return refused(13);
     }
-    if buffer.len() - used < record::SIZE {
+    if buffer.len() - used < size.bytes() {
         return refused(13);
     }
-    let checked = check_joined(&buffer[..used], added);
+    let checked = check_joined(size, &buffer[..used], added);
     let Checked::Accepted(_) = checked else {
         return checked_outcome(checked);
     };
@@ -60,9 +68,10 @@ pub fn append(buffer: &mut [u8], used: usize, added: &[u8]) -> Outcome
     Outcome::Done
 }
 
-// "16 as the mark of a report, verdict, ground, engine, four pairs of decision and engine, pollutant 1 first, eight zeros"
-fn values(judgement: Judgement) -> [u8; 20]
-    ensures { λ a. ⌜ a ≡ rules.reportBytes pollutants (judgementIs judgement) ⌝ }
+// "16 as the mark of a report, verdict, ground, engine, four pairs of decision and engine, pollutant 1 first, eight zeros"; 02, F-10: "28 bytes with six pairs and twelve zeros".
+// Where pollutants 5 and 6 are not declared, its first 20 bytes are the report of 20 bytes.
+fn values(judgement: Judgement) -> [u8; 28]
+    ensures { λ a. ⌜ a ≡ rules.reportBytes morePollutants (judgementIs judgement) ⌝ }
 {
     let Judgement { verdict, decisions } = judgement;
     let Numbers {
@@ -70,11 +79,20 @@ fn values(judgement: Judgement) -> [u8; 20]
         engine,
         ground,
     } = verdict.numbers();
-    let Decisions { co, hc, nox, pm } = decisions;
+    let Decisions {
+        co,
+        hc,
+        nox,
+        pm,
+        fifth,
+        sixth,
+    } = decisions;
     let co = co.pair();
     let hc = hc.pair();
     let nox = nox.pair();
     let pm = pm.pair();
+    let fifth = fifth.pair();
+    let sixth = sixth.pair();
     [
         16,
         verdict,
@@ -88,6 +106,14 @@ fn values(judgement: Judgement) -> [u8; 20]
         nox.engine,
         pm.decision,
         pm.engine,
+        fifth.decision,
+        fifth.engine,
+        sixth.decision,
+        sixth.engine,
+        0,
+        0,
+        0,
+        0,
         0,
         0,
         0,
@@ -109,18 +135,31 @@ fn judged_outcome(judged: Judged) -> Outcome
     }
 }
 
-// "Report writes 20 bytes, one for each value": "15, output under 20 bytes, record 0; then as judge. Bytes past 20 stay."
-pub fn report(sheet: &[u8], output: &mut [u8]) -> Outcome
-    ensures { λ o. ⌜ outcomeIs o ≡ rules.report pollutants (now (sheet .entry)) (now (output .entry)) ⌝ }
-    ensures { λ _. ⌜ now (output .exit) ≡ rules.reported pollutants squarings (now (sheet .entry)) (now (output .entry)) ⌝ }
+// "Report writes 20 bytes, one for each value": "15, output under 20 bytes, record 0; then as judge. Bytes past 20 stay."; 02, F-10: "13 to 15 count 28 bytes for the new size".
+pub fn report(size: usize, sheet: &[u8], output: &mut [u8]) -> Outcome
+    ensures { λ o. ⌜ outcomeIs o ≡ reportSized size (now (sheet .entry)) (now (output .entry)) ⌝ }
+    ensures { λ _. ⌜ now (output .exit) ≡ reportedSized size squarings (now (sheet .entry)) (now (output .entry)) ⌝ }
 {
-    if output.len() < record::SIZE {
+    // "30, size not 20 or 28, before every other"
+    let Named::Known(size) = Size::of(size) else {
+        return refused(30);
+    };
+    if output.len() < size.bytes() {
         return refused(15);
     }
-    let judged = judge(sheet);
+    let judged = judge_sheet(size, sheet);
     let Judged::Judgement(judgement) = judged else {
         return judged_outcome(judged);
     };
-    bytes::copy(&values(judgement), output);
+    let values = values(judgement);
+    // A number of the program for each size, so that no loop over the bytes is left.
+    match size {
+        Size::Twenty => {
+            bytes::copy(&values[..Size::TWENTY], output);
+        }
+        Size::TwentyEight => {
+            bytes::copy(&values, output);
+        }
+    }
     Outcome::Done
 }

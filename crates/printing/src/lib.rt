@@ -11,6 +11,7 @@ ghost use Rattle.printing.specs.Judgements.{firstLine, decisionLine, jud
 use decisions::Decision;
 use decisions::Decisions;
 use lines::Lines;
+use record::Size;
 use series::Judged;
 use series::Judgement;
 use series::Numbers;
@@ -71,12 +72,18 @@ fn with_pollutant(lines: Lines, p: u8, decision: Decision) -> Lines
     }
 }
 
-// Line 1, and a line for each of the four.
+// Line 1, and a line for each of the four pollutants of a sheet of 20-byte records.
 fn judgement_lines(judgement: Judgement) -> Lines
     ensures { λ l. ⌜ Adds nothing l (judgementLines judgement) room ⌝ }
 {
     let Judgement { verdict, decisions } = judgement;
-    let Decisions { co, hc, nox, pm } = decisions;
+    let Decisions {
+        co,
+        hc,
+        nox,
+        pm,
+        ..
+    } = decisions;
     let lines = first_line(verdict.numbers());
     let lines = with_pollutant(lines, 1, co);
     let lines = with_pollutant(lines, 2, hc);
@@ -84,11 +91,11 @@ fn judgement_lines(judgement: Judgement) -> Lines
     with_pollutant(lines, 4, pm)
 }
 
-// The lines for the bytes of a sheet, whatever they are.
+// The lines for the bytes of a sheet of 20-byte records, whatever they are.
 pub fn print(sheet: &[u8]) -> Lines
     ensures { λ l. ⌜ Written l (printed pollutants squarings (now (sheet .entry))) ⌝ }
 {
-    match judge(sheet) {
+    match judge(Size::TWENTY, sheet) {
         Judged::Judgement(judgement) => judgement_lines(judgement),
         // "A refusal prints `refused`, number, record."
         Judged::Refused(refusal) => line_of(b"refused", refusal.number, refusal.place),

@@ -3,8 +3,8 @@ ghost use mathlib.Core.Path.{_≡_};
 ghost use lib.ListN.{length};
 ghost use Rattle.rules.specs.Logarithm.{squarings, g};
 ghost use Rattle.rules.specs.Sheet.{pollutants};
-ghost use Rattle.rules.specs.Refusals as refusals;
 ghost use Rattle.rules.specs.Operations as rules;
+ghost use Rattle.rules.specs.Sizes.{checkSized, evidenceSized};
 ghost use Rattle.rules.specs.Printed.{printed};
 ghost use Rattle.reading.specs.Steps.{stepAt, leftAt};
 ghost use Rattle.probe.specs.Entries.{reached, numbersOf, placed};
@@ -19,17 +19,17 @@ pub extern "C" fn probe_logarithm(m: u32) -> u32
     logarithm::log2(m)
 }
 
-// How many bytes of the sheet are its evidence, and at code the refusal: size_t probe_evidence(const uint8_t *sheet, size_t sheet_length, uint32_t *code)
+// How many bytes of the sheet are its evidence, and at code the refusal: size_t probe_evidence(size_t size, const uint8_t *sheet, size_t sheet_length, uint32_t *code)
 #[no_mangle]
-pub extern "C" fn probe_evidence(sheet: &[u8], code: &mut u32) -> usize
-    ensures { λ r. ⌜ r ≡ length (rules.evidence pollutants squarings (now (sheet .entry))) ⌝ }
-    ensures { λ _. ⌜ now (code .exit) ≡ rules.code (refusals.check pollutants (now (sheet .entry))) ⌝ }
+pub extern "C" fn probe_evidence(size: usize, sheet: &[u8], code: &mut u32) -> usize
+    ensures { λ r. ⌜ r ≡ length (evidenceSized size squarings (now (sheet .entry))) ⌝ }
+    ensures { λ _. ⌜ now (code .exit) ≡ rules.code (checkSized size (now (sheet .entry))) ⌝ }
 {
-    let part = series::evidence(sheet, code);
+    let part = series::evidence(size, sheet, code);
     part.len()
 }
 
-// Writes the lines of the sheet to the start of output if they fit, else nothing, and answers how many bytes they are:
+// Writes the lines of the sheet, of 20-byte records, to the start of output if they fit, else nothing, and answers how many bytes they are:
 // size_t probe_lines(const uint8_t *sheet, size_t sheet_length, uint8_t *output, size_t output_length)
 #[no_mangle]
 pub extern "C" fn probe_lines(sheet: &[u8], output: &mut [u8]) -> usize
@@ -46,12 +46,12 @@ pub extern "C" fn probe_lines(sheet: &[u8], output: &mut [u8]) -> usize
 }
 
 // A reader that stands at the start is moved on k times, or to the end.
-fn walked(sheet: &[u8], k: usize) -> usize
-    ensures { λ n. ⌜ n ≡ reached (now (sheet .entry)) k ⌝ }
+fn walked(size: usize, sheet: &[u8], k: usize) -> usize
+    ensures { λ n. ⌜ n ≡ reached size (now (sheet .entry)) k ⌝ }
 {
     let mut at: usize = 0;
     while at < k {
-        let turn = turn_at(sheet, at);
+        let turn = turn_at(size, sheet, at);
         if turn.left == 0 {
             return at;
         }
@@ -60,7 +60,7 @@ fn walked(sheet: &[u8], k: usize) -> usize
     at
 }
 
-fn numbers_of(step: Step) -> [u32; 6]
+fn numbers_of(step: Step) -> [u32; 8]
     ensures { λ ns. ⌜ ns ≡ numbersOf step ⌝ }
 {
     match step {
@@ -69,7 +69,7 @@ fn numbers_of(step: Step) -> [u32; 6]
             plan,
             limit,
             deviation,
-        } => [1, number, plan, limit, deviation, 0],
+        } => [1, number, plan, limit, deviation, 0, 0, 0],
         Step::Engine {
             cause,
             measurements,
@@ -80,21 +80,23 @@ fn numbers_of(step: Step) -> [u32; 6]
             measurements.hc,
             measurements.nox,
             measurements.pm,
+            measurements.fifth,
+            measurements.sixth,
         ],
-        Step::Stop => [3, 0, 0, 0, 0, 0],
-        Step::Other { kind } => [4, kind, 0, 0, 0, 0],
-        Step::End => [5, 0, 0, 0, 0, 0],
+        Step::Stop => [3, 0, 0, 0, 0, 0, 0, 0],
+        Step::Other { kind } => [4, kind, 0, 0, 0, 0, 0, 0],
+        Step::End => [5, 0, 0, 0, 0, 0, 0, 0],
     }
 }
 
 // What a reader finds that was moved on k times: which of the five steps, and its fields, at numbers; and as the answer how many records are left there.
-// size_t probe_step(const uint8_t *sheet, size_t sheet_length, size_t k, uint32_t numbers[6])
+// size_t probe_step(size_t size, const uint8_t *sheet, size_t sheet_length, size_t k, uint32_t numbers[8])
 #[no_mangle]
-pub extern "C" fn probe_step(sheet: &[u8], k: usize, numbers: &mut [u32; 6]) -> usize
-    ensures { λ n. ⌜ n ≡ leftAt (now (sheet .entry)) (reached (now (sheet .entry)) k) ⌝ }
-    ensures { λ _. ⌜ now (numbers .exit) ≡ numbersOf (stepAt (now (sheet .entry)) (reached (now (sheet .entry)) k)) ⌝ }
+pub extern "C" fn probe_step(size: usize, sheet: &[u8], k: usize, numbers: &mut [u32; 8]) -> usize
+    ensures { λ n. ⌜ n ≡ leftAt size (now (sheet .entry)) (reached size (now (sheet .entry)) k) ⌝ }
+    ensures { λ _. ⌜ now (numbers .exit) ≡ numbersOf (stepAt size (now (sheet .entry)) (reached size (now (sheet .entry)) k)) ⌝ }
 {
-    let turn = turn_at(sheet, walked(sheet, k));
+    let turn = turn_at(size, sheet, walked(size, sheet, k));
     let step = turn.step;
     *numbers = numbers_of(step);
     turn.left

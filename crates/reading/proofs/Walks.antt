@@ -24,7 +24,7 @@ use denote.RattleType.{RattleType, Denots, Valss, mirs, flat, owns}
 use denote.Laws.{Typed, Is, Ises, Spells, valss, Tellss, Lawful, Lawfuls, all-typed, shows}
 use denote.Plain.{uint-vals, uint-tells, uint-lawful, uint-copy}
 use denote.Builtin.{u8, usize}
-use denote.Ref.{RefT, now}
+use denote.Ref.{now}
 use denote.Signature.{Slot, typesAt, plain, namedLft}
 use denote.Slice.{sliceTy, ShrSlice, slice-vals, shr-slice-tells, shr-slice-lawful, shr-slice-copy}
 use denote.Steps.{peeks, heard}
@@ -59,16 +59,19 @@ pub record Params : Type 2 where
 abbrev pub Slice : Lfts 1 → RattleType
 Slice κs = ShrSlice (named 0) (κs .0) u8
 
-abbrev pub slice-and-number : Params
-slice-and-number = record {
-  slots = plain Slice ∷ plain (λ _. usize) ∷ [];
-  kept = (yes, (yes, tt));
-  stays = (stay-none Slice yes, (stay-none (λ _. usize) yes, tt));
-  spells = λ κs. (slice-vals, (uint-vals w64, tt));
-  tells = λ κs. (shr-slice-tells (named 0) (κs .0) u8, (uint-tells w64, tt));
-  goes = λ 𝓤 H A W. (goes-none 𝓤 H A W 1 Slice yes (λ κs x f. refl), (goes-none 𝓤 H A W 1 (λ _. usize) yes (λ κs x f. refl), tt));
-  lawful = λ 𝓤 H A W κs. (shr-slice-lawful 𝓤 H A W (named 0) (κs .0) u8, (uint-lawful 𝓤 H A W w64, tt));
-  copies = λ 𝓤 H A W κs. (shr-slice-copy 𝓤 H A W (named 0) (κs .0) u8, (uint-copy 𝓤 H A W w64, tt));
+abbrev Number : Lfts 1 → RattleType
+Number κs = usize
+
+abbrev pub size-slice-number : Params
+size-slice-number = record {
+  slots = plain Number ∷ plain Slice ∷ plain Number ∷ [];
+  kept = (yes, (yes, (yes, tt)));
+  stays = (stay-none Number yes, (stay-none Slice yes, (stay-none Number yes, tt)));
+  spells = λ κs. (uint-vals w64, (slice-vals, (uint-vals w64, tt)));
+  tells = λ κs. (uint-tells w64, (shr-slice-tells (named 0) (κs .0) u8, (uint-tells w64, tt)));
+  goes = λ 𝓤 H A W. (goes-none 𝓤 H A W 1 Number yes (λ κs x f. refl), (goes-none 𝓤 H A W 1 Slice yes (λ κs x f. refl), (goes-none 𝓤 H A W 1 Number yes (λ κs x f. refl), tt)));
+  lawful = λ 𝓤 H A W κs. (uint-lawful 𝓤 H A W w64, (shr-slice-lawful 𝓤 H A W (named 0) (κs .0) u8, (uint-lawful 𝓤 H A W w64, tt)));
+  copies = λ 𝓤 H A W κs. (uint-copy 𝓤 H A W w64, (shr-slice-copy 𝓤 H A W (named 0) (κs .0) u8, (uint-copy 𝓤 H A W w64, tt)));
 }
 
 -- the reader's type, its description and its laws
@@ -193,68 +196,73 @@ module _ (p : Answer) where
         (walked 𝓤 H A lent (p .params .stays) (clauses 𝓤) (WpFn 𝓤 H (𝓣 .C) (𝓣 .Λ) f) (p .params .spells) (p .params .tells)
         (λ κs qs bounds a g are. via 𝓤 _ (fst∗ 𝓤 _ (emp 𝓤)) (walk (fmOf 𝓤 H (W .laws) 𝓣) (κs .0) (qs .0) a (all-typed 𝓤 H A (rows (p .params) (κs .0)) (p .params .lawful 𝓤 H A W κs) a _ are)))))
 
--- ---- the answers of `at` and of `advance`, and what a definition says of a sheet's bytes and a number, told of a reader, and of a slice and a number
+-- ---- the answers of `at` and of `advance`, and what a definition says of a size, a sheet's bytes and a number, told of a reader, and of size, slice and number
 abbrev pub stands : Answer
-stands = record { params = slice-and-number; result = Reader; value = λ κs a. reader (a .0) (a .1 .0) }
+stands = record { params = size-slice-number; result = Reader; value = λ κs a. reader (a .0) (a .1 .0) (a .1 .1 .0) }
 
 abbrev pub advances : Answer
 advances = record { params = one-reader; result = Reader; value = λ κs a. advanced (a .0) }
 
-module _ (R : RattleType) (value : List ℕ → ℕ → R .Denot) where
+-- a definition at what a reader holds
+abbrev pub of-reader : {D : Type 0} → (ℕ → List ℕ → ℕ → D) → SheetReader → D
+of-reader value d = value (d .size) (now (d .bytes)) (d .next)
+
+module _ (R : RattleType) (value : ℕ → List ℕ → ℕ → R .Denot) where
   abbrev pub tells : Answer
-  tells = record { params = one-reader; result = λ _. R; value = λ κs a. value (now (a .0 .bytes)) (a .0 .next) }
+  tells = record { params = one-reader; result = λ _. R; value = λ κs a. of-reader value (a .0) }
 
   abbrev pub tells-at : Answer
-  tells-at = record { params = slice-and-number; result = λ _. R; value = λ κs a. value (now (a .0)) (a .1 .0) }
+  tells-at = record { params = size-slice-number; result = λ _. R; value = λ κs a. of-reader value (stands .value κs a) }
 
--- ---- what a slice and a number own, and what a reader owns: of a copy of it the slice and the number are had
-module _ (κ : Lft) (s : RefT (List ℕ)) (k : ℕ) where
-  abbrev pub parts : Denots (rows slice-and-number κ)
-  parts = (s, (k, tt))
+-- ---- what a reader's size, slice and number own, and what the reader owns: of a copy of it the three are had
+module _ (κ : Lft) (d : SheetReader) where
+  abbrev pub parts : Denots (rows size-slice-number κ)
+  parts = (d .size, (d .bytes, (d .next, tt)))
 
-  abbrev pub part-vals : Valss (rows slice-and-number κ)
-  part-vals = spelled slice-and-number κ parts
+  abbrev pub part-vals : Valss (rows size-slice-number κ)
+  part-vals = spelled size-slice-number κ parts
 
   abbrev pub Parts : Fml
-  Parts = Passed slice-and-number κ parts part-vals
+  Parts = Passed size-slice-number κ parts part-vals
 
-module _ (κ : Lft) (d : SheetReader) where
   abbrev pub Held : Fml
   Held = Passed one-reader κ (d, tt) (T′.lowered d ∷ [], tt)
 
-  pub apart : {M : Type 1} {𝓤 : URA M} {H : Heap 𝓤} {A : Atoms 𝓤} {K : Type 0} {W : Given 𝓤 H A} {Γ : List (Item 𝓤)} {G : Goal 𝓤 H} → K → Step K W (‵ (Parts κ (d .bytes) (d .next)) ∷ ‵ Held ∷ Γ) G (‵ Held ∷ Γ) G
+  pub apart : {M : Type 1} {𝓤 : URA M} {H : Heap 𝓤} {A : Atoms 𝓤} {K : Type 0} {W : Given 𝓤 H A} {Γ : List (Item 𝓤)} {G : Goal 𝓤 H} → K → Step K W (‵ Parts ∷ ‵ Held ∷ Γ) G (‵ Held ∷ Γ) G
   apart {𝓤 = 𝓤} {H = H} {A = A} {W = W} t = step (λ s.
       twice one-reader κ (d, tt) (T′.lowered d ∷ [], tt) t $ fsplit t $ move t (1 ∷ []) $ drop t $
-      use1 W (given (T′.lowered d ∷ [] ≡ T′.lowered d ∷ []) (‵ (Parts κ (d .bytes) (d .next)))) (own-open 𝓤 H A W (reader-type (κ, tt)) (reader-laws (κ, tt)) (parts κ (d .bytes) (d .next)) (T′.lowered d)) $ learn t (λ _. s))
+      use1 W (given (T′.lowered d ∷ [] ≡ T′.lowered d ∷ []) (‵ Parts)) (own-open 𝓤 H A W (reader-type (κ, tt)) (reader-laws (κ, tt)) parts (T′.lowered d)) $ learn t (λ _. s))
 
--- ---- a function of a reader that hands the slice and the number on, and returns what it is told
-module _ (R : RattleType) (τ : Ty) (value : List ℕ → ℕ → R .Denot) (callee : Name) where
+-- ---- a function of a reader that hands size, slice and number on, and returns what it is told
+module _ (R : RattleType) (τ : Ty) (value : ℕ → List ℕ → ℕ → R .Denot) (callee : Name) where
   abbrev forwarding : Fn
   forwarding =
       record {
         lifetimes = 1;
         outlives = [];
         params = 1;
-        locals = local τ valueLocal ∷ local (T′.mir (named 0)) valueLocal ∷ local (sliceTy (tyRef erased imm (tyInt w8))) valueLocal ∷ local (tyInt w64) valueLocal ∷ [];
+        locals = local τ valueLocal ∷ local (T′.mir (named 0)) valueLocal ∷ local (tyInt w64) valueLocal ∷ local (sliceTy (tyRef erased imm (tyInt w8))) valueLocal ∷ local (tyInt w64) valueLocal ∷ [];
         body =
             seq (assign (place 2 []) (rvOpd (copy (place 1 (field 0 ∷ [])))))
             (seq (assign (place 3 []) (rvOpd (copy (place 1 (field 1 ∷ [])))))
-            (seq (call callee (copy (place 2 []) ∷ copy (place 3 []) ∷ []) (place 0 [])) return));
+            (seq (assign (place 4 []) (rvOpd (copy (place 1 (field 2 ∷ [])))))
+            (seq (call callee (copy (place 2 []) ∷ copy (place 3 []) ∷ copy (place 4 []) ∷ []) (place 0 [])) return)));
       }
 
   walk : {M : Type 1} (𝓤 : URA M) (H : Heap 𝓤) (A : Atoms 𝓤) (W : Given 𝓤 H A) → Lawful 𝓤 H A R → R .mir ≡ τ ∷ [] → (C : Calls 𝓤 H) (Λ : Loops 𝓤 H) → FmC 𝓤 H (W .laws) C → Triple 𝓤 (C callee) (Answers (tells-at R value) 𝓤 H A)
       → (κ : Lft) (q : Share) (d : SheetReader) → Walk (tells R value) 𝓤 H A κ q (d, tt) C Λ forwarding
   walk 𝓤 H A W lawful one C Λ fm known κ q d wt =
       qed W (token 𝓤 κ q ∷ ‵ (Held κ d) ∷ []) ∵ enter ! C Λ forwarding (T′.lowered d ∷ []) _ $
-      alloc1 ! (λ l₀. alloc1 ! (λ l₁. alloc1 ! (λ l₂. alloc1 ! (λ l₃. alloc0 ! $ params1 ! $ pass1 ! (init ! 4 refl (wt .0)) $ pass0 ! $
-      assigns ! (of-opd ! (load ! (from ! (fld ! refl (stop !))) (look-in ! 4 (sub ! 0 refl (whole !))))) (from ! (stop !)) (init ! 2 refl (tt, wt .0 .1 .0)) $
-      assigns ! (of-opd ! (load ! (from ! (fld ! refl (stop !))) (look-in ! 4 (sub ! 1 refl (whole !))))) (from ! (stop !)) (init ! 0 refl (tt, wt .0 .1 .1 .0)) $
-      move ! (9 ∷ []) $ apart κ d ! $ move ! (10 ∷ []) $
-      calls (tells-at R value) 𝓤 H A κ q (parts κ (d .bytes) (d .next)) (part-vals κ (d .bytes) (d .next)) ! fm known (and-then ! (load ! (from ! (stop !)) (look ! 5 refl)) (and-then ! (load ! (from ! (stop !)) (look ! 3 refl)) (no-more !))) (λ u is.
-      -- [the result; the token; what the slice and the number own; what the reader owns; _3; …; _2; …; _1; …; room for _0; …]
-      land ! (from ! (stop !)) (init ! 10 refl (subst (λ (τs : List Ty). Typed τs (u ∷ [])) one (lawful .typed _ _ is) .0)) $
-      returns ! (look ! 10 refl) $ move ! (10 ∷ 11 ∷ []) $ let-go ! $ move ! (8 ∷ 9 ∷ []) $ let-go ! $ move ! (6 ∷ 7 ∷ []) $ let-go ! $ move ! (4 ∷ 5 ∷ []) $ let-go ! $ free0 ! $
-      keep ! (0 ∷ 1 ∷ 3 ∷ []) $ by ! (exits (tells R value) 𝓤 H A κ q (d, tt) W u (tt, tt) (tt, tt)))))))
+      alloc1 ! (λ l₀. alloc1 ! (λ l₁. alloc1 ! (λ l₂. alloc1 ! (λ l₃. alloc1 ! (λ l₄. alloc0 ! $ params1 ! $ pass1 ! (init ! 6 refl (wt .0)) $ pass0 ! $
+      assigns ! (of-opd ! (load ! (from ! (fld ! refl (stop !))) (look-in ! 6 (sub ! 0 refl (whole !))))) (from ! (stop !)) (init ! 4 refl (tt, wt .0 .1 .0)) $
+      assigns ! (of-opd ! (load ! (from ! (fld ! refl (stop !))) (look-in ! 6 (sub ! 1 refl (whole !))))) (from ! (stop !)) (init ! 2 refl (tt, wt .0 .1 .1 .0)) $
+      assigns ! (of-opd ! (load ! (from ! (fld ! refl (stop !))) (look-in ! 6 (sub ! 2 refl (whole !))))) (from ! (stop !)) (init ! 0 refl (tt, wt .0 .1 .1 .1 .0)) $
+      move ! (11 ∷ []) $ apart κ d ! $ move ! (12 ∷ []) $
+      calls (tells-at R value) 𝓤 H A κ q (parts κ d) (part-vals κ d) ! fm known (and-then ! (load ! (from ! (stop !)) (look ! 7 refl)) (and-then ! (load ! (from ! (stop !)) (look ! 5 refl)) (and-then ! (load ! (from ! (stop !)) (look ! 3 refl)) (no-more !)))) (λ u is.
+      -- [the result; the token; what size, slice and number own; what the reader owns; _4; …; _3; …; _2; …; _1; …; room for _0; …]
+      land ! (from ! (stop !)) (init ! 12 refl (subst (λ (τs : List Ty). Typed τs (u ∷ [])) one (lawful .typed _ _ is) .0)) $
+      returns ! (look ! 12 refl) $ move ! (12 ∷ 13 ∷ []) $ let-go ! $ move ! (10 ∷ 11 ∷ []) $ let-go ! $ move ! (8 ∷ 9 ∷ []) $ let-go ! $ move ! (6 ∷ 7 ∷ []) $ let-go ! $ move ! (4 ∷ 5 ∷ []) $ let-go ! $ free0 ! $
+      keep ! (0 ∷ 1 ∷ 3 ∷ []) $ by ! (exits (tells R value) 𝓤 H A κ q (d, tt) W u (tt, tt) (tt, tt))))))))
 
   module _ {M : Type 1} (𝓤 : URA M) (H : Heap 𝓤) (𝓜 : Model 𝓤 H) (𝓖 : GhostRules 𝓤 H) (𝓡 : Running 𝓤 H 𝓜) (γ : Env) (name : Name) where
     pub forwards : Closed 𝓤 H (tables 𝓤 H 𝓜 𝓡 γ .C) (tables 𝓤 H 𝓜 𝓡 γ .Λ) name forwarding → Lawful 𝓤 H (𝓖 .A) R → R .mir ≡ τ ∷ [] → (r : Routine) → γ callee ≡ r → Triple 𝓤 (𝓡 .run r) (Answers (tells-at R value) 𝓤 H (𝓖 .A))

@@ -1,11 +1,13 @@
-// "A sheet under reading is the lent bytes and the number of the next record": a struct over the slice, and few functions over it.
-// Each takes the struct apart and leaves the work to a function on the slice and the number.
+// "A sheet under reading is the lent bytes and the number of the next record": a struct over the slice, with the size of its records, and few functions over it.
+// Each takes the struct apart and leaves the work to a function on size, slice and number.
 ghost use mathlib.Core.Path.{_≡_};
-ghost use Rattle.reading.specs.Steps.{stepAt, leftAt, nextAt, reader, advanced, turnAt};
+ghost use Rattle.reading.specs.Steps.{wholeRecords, stepAt, leftAt, nextAt, reader, advanced, turnAt};
 use record::ENGINE;
+use record::Named;
 use record::POLLUTANT;
 use record::Quantities;
 use record::STOP;
+use record::Size;
 use record::cause_of;
 use record::deviation_of;
 use record::kind_of;
@@ -34,14 +36,27 @@ pub enum Step {
     End,
 }
 
-// What stands at a number. A record that is not whole is the end.
-pub fn step_at(bytes: &[u8], at: usize) -> Step
-    ensures { λ s. ⌜ s ≡ stepAt (now (bytes .entry)) at ⌝ }
+// How many whole records so many bytes are; of a size that there is not, none.
+fn whole_records(size: usize, bytes: usize) -> usize
+    ensures { λ n. ⌜ n ≡ wholeRecords size bytes ⌝ }
 {
-    if bytes.len() / record::SIZE <= at {
+    match Size::of(size) {
+        Named::Known(size) => size.records_in(bytes),
+        Named::Unknown => 0,
+    }
+}
+
+// What stands at a number of a sheet of records of that size. A record that is not whole is the end.
+pub fn step_at(size: usize, bytes: &[u8], at: usize) -> Step
+    ensures { λ s. ⌜ s ≡ stepAt size (now (bytes .entry)) at ⌝ }
+{
+    let Named::Known(size) = Size::of(size) else {
+        return Step::End;
+    };
+    if size.records_in(bytes.len()) <= at {
         return Step::End;
     }
-    let r = record_at(bytes, at);
+    let r = record_at(size, bytes, at);
     let kind = kind_of(r);
     if kind == POLLUTANT {
         return Step::Pollutant {
@@ -57,6 +72,8 @@ pub fn step_at(bytes: &[u8], at: usize) -> Step
             hc: measurement_of(r, 2),
             nox: measurement_of(r, 3),
             pm: measurement_of(r, 4),
+            fifth: measurement_of(r, 5),
+            sixth: measurement_of(r, 6),
         };
         return Step::Engine {
             cause: cause_of(r),
@@ -70,18 +87,18 @@ pub fn step_at(bytes: &[u8], at: usize) -> Step
 }
 
 // How many whole records are left from the number on.
-pub fn left_at(bytes: &[u8], at: usize) -> usize
-    ensures { λ n. ⌜ n ≡ leftAt (now (bytes .entry)) at ⌝ }
+pub fn left_at(size: usize, bytes: &[u8], at: usize) -> usize
+    ensures { λ n. ⌜ n ≡ leftAt size (now (bytes .entry)) at ⌝ }
 {
-    let n = bytes.len() / record::SIZE;
+    let n = whole_records(size, bytes.len());
     if at < n { n - at } else { 0 }
 }
 
 // The number after a number. The end stays the end, so that no number is too large to have one after it.
-pub fn next_at(bytes: &[u8], at: usize) -> usize
-    ensures { λ n. ⌜ n ≡ nextAt (now (bytes .entry)) at ⌝ }
+pub fn next_at(size: usize, bytes: &[u8], at: usize) -> usize
+    ensures { λ n. ⌜ n ≡ nextAt size (now (bytes .entry)) at ⌝ }
 {
-    if at < bytes.len() / record::SIZE {
+    if at < whole_records(size, bytes.len()) {
         at + 1
     } else {
         at
@@ -90,31 +107,33 @@ pub fn next_at(bytes: &[u8], at: usize) -> usize
 
 // A sheet under reading.
 pub struct SheetReader<'a> {
+    pub size: usize,
     pub bytes: &'a [u8],
     pub next: usize,
 }
 
 impl<'a> SheetReader<'a> {
     // The reader that stands before record `next`.
-    pub fn at(bytes: &'a [u8], next: usize) -> SheetReader<'a>
-        ensures { λ r. ⌜ r ≡ reader (bytes .entry) next ⌝ }
+    pub fn at(size: usize, bytes: &'a [u8], next: usize) -> SheetReader<'a>
+        ensures { λ r. ⌜ r ≡ reader size (bytes .entry) next ⌝ }
     {
-        SheetReader { bytes, next }
+        SheetReader { size, bytes, next }
     }
 
     // What stands at the next number.
     pub fn read(self) -> Step
-        ensures { λ s. ⌜ s ≡ stepAt (now (self .entry .bytes)) (self .entry .next) ⌝ }
+        ensures { λ s. ⌜ s ≡ stepAt (self .entry .size) (now (self .entry .bytes)) (self .entry .next) ⌝ }
     {
-        step_at(self.bytes, self.next)
+        step_at(self.size, self.bytes, self.next)
     }
 
     // The reader behind that.
     pub fn advance(self) -> SheetReader<'a>
         ensures { λ r. ⌜ r ≡ advanced (self .entry) ⌝ }
     {
-        let next = next_at(self.bytes, self.next);
+        let next = next_at(self.size, self.bytes, self.next);
         SheetReader {
+            size: self.size,
             bytes: self.bytes,
             next,
         }
@@ -122,9 +141,9 @@ impl<'a> SheetReader<'a> {
 
     // How many records are left to read.
     pub fn left(self) -> usize
-        ensures { λ n. ⌜ n ≡ leftAt (now (self .entry .bytes)) (self .entry .next) ⌝ }
+        ensures { λ n. ⌜ n ≡ leftAt (self .entry .size) (now (self .entry .bytes)) (self .entry .next) ⌝ }
     {
-        left_at(self.bytes, self.next)
+        left_at(self.size, self.bytes, self.next)
     }
 }
 
@@ -136,10 +155,10 @@ pub struct Turn {
 }
 
 // A reader that stands at the number is read and moved on. The parameters are plain, so whoever calls it needs no walk of a reader.
-pub fn turn_at(bytes: &[u8], at: usize) -> Turn
-    ensures { λ t. ⌜ t ≡ turnAt (now (bytes .entry)) at ⌝ }
+pub fn turn_at(size: usize, bytes: &[u8], at: usize) -> Turn
+    ensures { λ t. ⌜ t ≡ turnAt size (now (bytes .entry)) at ⌝ }
 {
-    let reader = SheetReader::at(bytes, at);
+    let reader = SheetReader::at(size, bytes, at);
     let step = reader.read();
     let left = reader.left();
     let behind = reader.advance();

@@ -1,14 +1,19 @@
--- What a record, a byte and a number that are read must lie within.
+-- What a record, a measurement, bytes and a number that are read must lie within.
 use Prim.Native.Nat.{ℕ, _+_, _*_, _^_, _≤_, _<_}
-use Rattle.rules.specs.Sheet.{recordSize}
+use Rattle.rules.specs.Sheet.{size}
 
--- what a record that is read must lie within: record k of n bytes is whole
-pub record RecordRange (k n : ℕ) : Type 0 where
-  pub inside : recordSize * k + recordSize ≤ n
+-- record k, of w pollutants, of n bytes is whole
+pub record RecordRange (w k n : ℕ) : Type 0 where
+  pub inside : size w * k + size w ≤ n
 
--- a byte that a record of n bytes has
-pub record ByteRange (i n : ℕ) : Type 0 where
-  pub inside : i < n
+-- and has a measurement of pollutant p
+pub record MeasurementRange (w k p n : ℕ) : Type 0 where
+  pub inside : size w * k + size w ≤ n
+  pub measured : p ≤ w
+
+-- so many bytes from byte i on, of n
+pub record ByteRange (i many n : ℕ) : Type 0 where
+  pub inside : i + many ≤ n
 
 -- the place of a number in a record, far below what a count can hold, so that the bytes behind it have a place too
 pub record PlaceRange (i bits : ℕ) : Type 0 where

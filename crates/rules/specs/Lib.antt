@@ -1,8 +1,10 @@
 -- Document 01, the specification, a file for each of its sections. The refusals stand before the operations, which use them.
--- Behind them, a file for each request of document 02 that is about no sheet.
+-- Behind them, of document 02: F-10, the operations by the record size that a caller names and the converter; and a file for each request
+-- that is about no sheet.
 --
 -- Two numbers are parameters throughout, each put in at one place:
--- w, the pollutants that the format has room for (`pollutants` in Sheet), and q, the squarings of the logarithm (`squarings` in Logarithm).
+-- w, the pollutants that the format has room for (by the record size in Sizes; `pollutants` and `morePollutants` in Sheet), and
+-- q, the squarings of the logarithm (`squarings` in Logarithm).
 pub mod Tools
 pub mod Logarithm
 pub mod Sheet
@@ -12,4 +14,6 @@ pub mod Refusals
 pub mod Operations
 pub mod Printed
 pub mod Demands
+pub mod Sizes
+pub mod Converter
 pub mod DeclaredValue

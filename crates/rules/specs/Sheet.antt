@@ -6,19 +6,22 @@ use lib.Dec.{ltb, eqb}
 use lib.ListN.{length, getD, take, drop}
 use Rattle.rules.specs.Tools.{any, those, byte, two, four}
 
--- "four u32 measurements"
+-- "four u32 measurements", and 02, F-10: "A 28-byte record has six measurements"
 abbrev pub pollutants : ℕ
 pollutants = 4
+
+abbrev pub morePollutants : ℕ
+morePollutants = 6
 
 -- the bytes of a record
 abbrev pub Record : Type 0
 Record = List ℕ
 
--- "Records of 20 bytes"
+-- "Records of 20 bytes", and of 28
 abbrev pub size : (w : ℕ) → ℕ
 size w = 4 + 4 * w
 
--- "at most 37": each pollutant once, 32 engines and a stop
+-- "at most 37": each pollutant once, 32 engines and a stop; 02, F-10: "A sheet of the new size holds two records more"
 abbrev pub most : (w : ℕ) → ℕ
 most w = w + 33
 
@@ -67,7 +70,7 @@ limit r = four r 4
 unfoldable pub deviation : Record → ℕ
 deviation r = four r 8
 
--- kind 2: "bytes 2-3 cause; bytes 4-19 four u32 measurements, pollutant 1 first"
+-- kind 2: "bytes 2-3 cause; bytes 4-19 four u32 measurements, pollutant 1 first"; 02, F-10: "the new ones zero or measurements 5 and 6"
 unfoldable pub cause : Record → ℕ
 cause r = two r 2
 

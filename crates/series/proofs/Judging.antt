@@ -1,16 +1,25 @@
 -- The answers for bytes: judging and evidence, from the tally of an accepted sheet's columns or from its refusal.
-use Rattle.arithmetic.proofs.Basics.{ℕ, _+_, _*_, _≤_, arith, _≡_, refl, sym, ap, _∙_, true, false, _||_, List, [], map, eqb, length, take}
+use Rattle.arithmetic.proofs.Basics.{ℕ, _+_, _-_, _*_, _≤_, le-trans, mul-le-mul, mul-le-mul-left, arith, _≡_, refl, sym, ap, _∙_, true, false, _||_, List, [], map, eqb, length, take}
 use Rattle.rules.specs.Logarithm.{squarings}
-use Rattle.rules.specs.Sheet.{pollutants, records, recordSize, stopKind}
+use Rattle.rules.specs.Sheet.{pollutants, morePollutants, size, records, stopKind}
 use Rattle.rules.specs.Plans.{planOf}
 use Rattle.rules.specs.Series as rules
-use Rattle.rules.specs.Refusals.{Check, check, refused}
+use Rattle.rules.specs.Refusals.{Check, check, accepted, refused}
 use Rattle.rules.specs.Operations.{judgeBy, judge, evidenceBy, evidence}
+use Rattle.rules.specs.Sizes.{width, checkSized, judgeSized, evidenceSized, openPairs}
 use Rattle.accepted.specs.Sheets.{pollutantsIn, enginesIn}
+use Rattle.accepted.proofs.Faultless.{sound}
 use Rattle.accepted.proofs.Sheets.{inside, rows-fit, last-most, declared-length}
 use Rattle.answers.proofs.Answers.{engineIn}
 use Rattle.answers.proofs.Answers as answers
 use Rattle.answers.proofs.Ranges.{engine-within}
+use Rattle.sizes.proofs.Columns.{judge-columns, own-above}
+use Rattle.record.specs.declared.Size.{Size}
+use Rattle.record.specs.declared.Size.the-variants.{Twenty, TwentyEight}
+use Rattle.record.specs.declared.Named.{Named}
+use Rattle.record.specs.declared.Named.the-variants.{Known, Unknown}
+use Rattle.record.specs.Sizes.{widthIs, nameOf}
+use Rattle.record.proofs.Sizes.{width-range, known-size, known-width, unknown-size}
 use Rattle.faults.specs.declared.Summary.{Summary}
 use Rattle.checking.specs.declared.Refusal.{Refusal}
 use Rattle.checking.specs.declared.Checked.{Checked}
@@ -33,79 +42,141 @@ use Rattle.decisions.specs.Decisions.{decisionsIs, declaredIs}
 use Rattle.series.specs.declared.Verdict.{Verdict}
 use Rattle.series.specs.declared.Numbers.{Numbers}
 use Rattle.series.specs.declared.Judgement.{Judgement}
+use Rattle.series.specs.declared.Judged.{Judged}
 use Rattle.series.specs.declared.tally.Tally.{Tally}
-use Rattle.series.specs.Answers.{numbersOf, verdictIs, judgementIs, JudgementIs, refusalIn}
+use Rattle.series.specs.Answers.{numbersOf, verdictIs, judgementIs, judgedIs, sixPairs, DeclaredIs, JudgementIs, refusalIn}
 use Rattle.series.specs.Tally.{tallyIs, VerdictIs, GateFits}
 use Rattle.series.proofs.Looping.{Opened, Kept, sheet, columnsOf}
 
 -- ---- the judgement of an accepted sheet, from the tally of its columns
 
-module _ {b : List ℕ} {s : Summary} {plan : Plan} where
-  pub gate-range : Valid b s → planIs plan ≡ planOf (s .plan) → GateRange b (s .head) (s .engines) plan
+-- the answer with six columns is the sheet's, with an open pair for each pollutant that its records have no room for
+six-columns : (z : Size) (b : List ℕ) → check (widthIs z) b ≡ accepted
+    → rules.judgeRecords morePollutants squarings (records (widthIs z) b) ≡ sixPairs (widthIs z) (rules.judgeRecords (widthIs z) squarings (records (widthIs z) b))
+six-columns Twenty b e = judge-columns pollutants 2 squarings (records pollutants b) (own-above pollutants b e)
+six-columns TwentyEight b e = judge-columns morePollutants 0 squarings (records morePollutants b) (own-above morePollutants b e)
+
+module _ {z : Size} {b : List ℕ} {s : Summary} {plan : Plan} where
+  pub gate-range : Valid z b s → planIs plan ≡ planOf (s .plan) → GateRange (widthIs z) b (s .head) (s .engines) plan
   gate-range v e = record { sheet = rw e (laws.accepted-so v); all = laws.engines-are v }
 
-  module _ {g : Gate} (o : Opened b s plan g) where
+  module _ {g : Gate} (o : Opened z b s plan g) where
     pub engines-few : s .engines ≤ 32
     engines-few = omega (arith, laws.engines-are (o .valid), rows-fit (sheet o), last-most (planIs plan))
 
     pub gate-fits : GateFits g
-    gate-fits = record { few = rw (o .gated) (omega (arith, gate-most (beforeIn (planIs plan) b) (s .engines), engines-few)) }
+    gate-fits = record { few = rw (o .gated) (omega (arith, gate-most (beforeIn (widthIs z) (planIs plan) b) (s .engines), engines-few)) }
 
-    pub judged-so : {k : ℕ} {t : Tally} → Kept b (s .head) plan g k t → s .head ≤ k
+    pub judged-so : {k : ℕ} {t : Tally} → Kept z b (s .head) plan g k t → s .head ≤ k
         → {v : Verdict} → VerdictIs t g (eqb (s .kind) stopKind) (s .engines) v
         → {ds : Decisions} → (decisionsIs ds ≡ map (upTo (t .rows)) (decisionsIs (t .decisions))) × (declaredIs ds ≡ declaredIs (t .decisions))
-        → JudgementIs b (record { verdict = v; decisions = ds })
+        → JudgementIs (widthIs z) b (record { verdict = v; decisions = ds })
     unfolding judgeByTally tallied
     judged-so {k} {t} kept l {v} ve {ds} de =
-        let e : k ≡ length (pollutantsIn b) = omega (arith, kept .few, declared-length (sheet o)) in
-        let all = rw (e, tally-end (columnsOf plan b) (pollutantsIn b) (tallyIs t)) at (kept .left) in
-        let marks = rw (e, marked-end (pollutantsIn b) (declaredIs (t .decisions))) at (kept .marks) in
+        let e : k ≡ length (pollutantsIn (widthIs z) b) = omega (arith, kept .few, declared-length (sheet o)) in
+        let all = rw (e, tally-end (columnsOf (widthIs z) plan b) (pollutantsIn (widthIs z) b) (tallyIs t)) at (kept .left) in
+        let marks = rw (e, marked-end (pollutantsIn (widthIs z) b) (declaredIs (t .decisions))) at (kept .marks) in
         record {
           judges =
               ap (λ (xs : List rules.Decision). verdictIs v (map rules.pairOf xs)) (de .0)
               ∙ ve _
               ∙ ap (tallied (eqb (s .kind) stopKind) (s .engines) (gateIs g)) all
-              ∙ (rw (o .gated, sheet o .planned, laws.stopped-is (o .valid), laws.engines-are (o .valid)) (sym (sheet-by-tally (sheet o) squarings)));
-          declares = de .1 ∙ marks ∙ declared-marks (sheet o);
+              ∙ (rw (o .gated, sheet o .planned, laws.stopped-is (o .valid), laws.engines-are (o .valid)) (sym (sheet-by-tally (sheet o) morePollutants squarings)))
+              ∙ six-columns z b (sheet o .accepts);
+          declares = de .1 ∙ marks ∙ declared-marks (sheet o) morePollutants;
         }
 
 -- ---- the check's answer
 
-module _ (b : List ℕ) {c : Checked} (e : c ≡ checkedOf b) where
-  pub valid : {s : Summary} → c ≡ checked.Accepted s → Valid b s
-  valid f = let a = laws.accepted-sheet b (sym e ∙ f) in record { accepts = a .0; says = a .1 }
+module _ (z : Size) (b : List ℕ) {c : Checked} (e : c ≡ checkedOf z b) where
+  pub valid : {s : Summary} → c ≡ checked.Accepted s → Valid z b s
+  valid f = let a = laws.accepted-sheet z b (sym e ∙ f) in record { accepts = a .0; says = a .1 }
 
-  pub refused-so : {f r : Refusal} → c ≡ checked.Refused f → r ≡ refusalIn c → check pollutants b ≡ refused (r .number) (r .place)
-  refused-so f q = rw (q, f) (laws.refused-sheet b (sym e ∙ f))
+  pub refused-so : {f r : Refusal} → c ≡ checked.Refused f → r ≡ refusalIn c → check (widthIs z) b ≡ refused (r .number) (r .place)
+  refused-so f q = rw (q, f) (laws.refused-sheet z b (sym e ∙ f))
 
 -- ---- judging and evidence of a refused sheet
 
-module _ (b : List ℕ) {n p : ℕ} (h : check pollutants b ≡ refused n p) where
-  pub judge-refused : rules.refusal n p ≡ judge pollutants squarings b
+module _ (w : ℕ) (b : List ℕ) {n p : ℕ} (h : check w b ≡ refused n p) where
+  refused-judged : rules.refusal n p ≡ judge w squarings b
   unfolding judge
-  judge-refused = sym (ap (λ (c : Check). judgeBy pollutants squarings c (records pollutants b)) h)
+  refused-judged = sym (ap (λ (c : Check). judgeBy w squarings c (records w b)) h)
 
-  pub evidence-refused : [] ≡ evidence pollutants squarings b
+  pub judge-refused : rules.refusal n p ≡ sixPairs w (judge w squarings b)
+  judge-refused = ap (sixPairs w) refused-judged
+
+  pub evidence-refused : [] ≡ evidence w squarings b
   unfolding evidence
-  evidence-refused = ap (λ (a : rules.Answer). evidenceBy pollutants a b) judge-refused
+  evidence-refused = ap (λ (a : rules.Answer). evidenceBy w a b) refused-judged
 
 -- ---- judging and evidence of an accepted sheet
 
-module _ {b : List ℕ} {s : Summary} (v : Valid b s) {j : Judgement} (is : JudgementIs b j) where
-  pub judge-accepted : judgementIs j ≡ judge pollutants squarings b
-  judge-accepted = is .judges ∙ sym (answers.judge-accepted pollutants squarings b (v .accepts))
+-- evidence and engine ask for no pair
+no-pair : (w k : ℕ) (a : rules.Answer) (b : List ℕ) → (evidenceBy w (openPairs k a) b ≡ evidenceBy w a b) × (engineIn (openPairs k a) ≡ engineIn a)
+no-pair w k (rules.refusal number place) b = (refl, refl)
+no-pair w k (rules.judgement verdict engine ground pairs) b = (refl, refl)
+
+module _ {z : Size} {b : List ℕ} {s : Summary} (v : Valid z b s) {j : Judgement} (is : JudgementIs (widthIs z) b j) where
+  abbrev w : ℕ
+  w = widthIs z
+
+  pub judge-accepted : judgementIs j ≡ sixPairs w (judge w squarings b)
+  judge-accepted = is .judges ∙ ap (sixPairs w) (sym (answers.judge-accepted w squarings b (v .accepts)))
+
+  evidence-by : evidenceBy w (judgementIs j) b ≡ evidence w squarings b
+  unfolding evidence
+  evidence-by = ap (λ (a : rules.Answer). evidenceBy w a b) judge-accepted ∙ no-pair w (morePollutants - w) (judge w squarings b) b .0
 
   module _ {n : Numbers} (ne : n ≡ numbersOf (j .verdict)) where
     -- the part through the deciding engine's record lies in the sheet
-    pub evidence-fits : recordSize * (s .head + n .engine) ≤ length b
+    pub evidence-fits : size w * (s .head + n .engine) ≤ length b
     evidence-fits =
-        let tested : engineIn (judgementIs j) ≤ length (enginesIn b) = rw (is .judges) (engine-within pollutants squarings (records pollutants b)) in
-        rw ne (omega (arith, tested, inside (laws.accepted-so v)))
+        let tested : engineIn (judgementIs j) ≤ length (enginesIn w b) =
+        rw (ap engineIn (is .judges) ∙ no-pair w (morePollutants - w) (rules.judgeRecords w squarings (records w b)) b .1) (engine-within w squarings (records w b)) in
+        rw ne (le-trans (mul-le-mul-left (size w) (omega (arith, tested))) (inside (laws.accepted-so v)))
 
-    pub evidence-part : eqb (n .ground) 1 || eqb (n .ground) 2 ≡ true → take (recordSize * (s .head + n .engine)) b ≡ evidence pollutants squarings b
-    unfolding evidence
-    evidence-part t = rw (← judge-accepted, laws.accepted-so v .starts, ← ne, t) refl
+    -- and is no longer than the longest sheet
+    pub evidence-small : size w * (s .head + n .engine) ≤ 1092
+    evidence-small =
+        let h = width-range z .1 in
+        omega (arith, evidence-fits, sound w b (v .accepts) .longest, h, mul-le-mul h h)
 
-    pub evidence-whole : eqb (n .ground) 1 || eqb (n .ground) 2 ≡ false → b ≡ evidence pollutants squarings b
-    unfolding evidence
-    evidence-whole t = rw (← judge-accepted, ← ne, t) refl
+    pub evidence-part : eqb (n .ground) 1 || eqb (n .ground) 2 ≡ true → take (size w * (s .head + n .engine)) b ≡ evidence w squarings b
+    evidence-part t = rw (← evidence-by, laws.accepted-so v .starts, ← ne, t) refl
+
+    pub evidence-whole : eqb (n .ground) 1 || eqb (n .ground) 2 ≡ false → b ≡ evidence w squarings b
+    evidence-whole t = rw (← evidence-by, ← ne, t) refl
+
+-- ---- by the size that a caller names
+
+module _ (s : ℕ) (b : List ℕ) {n : Named} (e : n ≡ nameOf s) where
+  module _ (k : n ≡ Unknown) where
+    pub judge-unknown : rules.refusal 30 0 ≡ sixPairs (width s) (judgeSized s squarings b)
+    unfolding judgeSized
+    judge-unknown = ap (sixPairs (width s)) (unknown-size s e k _ (λ w. judge w squarings b))
+
+    pub evidence-unknown : [] ≡ evidenceSized s squarings b
+    unfolding evidenceSized
+    evidence-unknown = unknown-size s e k [] (λ w. evidence w squarings b)
+
+    pub check-unknown : refused 30 0 ≡ checkSized s b
+    unfolding checkSized
+    check-unknown = unknown-size s e k _ (λ w. check w b)
+
+  module _ {z : Size} (k : n ≡ Known z) where
+    pub judge-known : (j : Judged) → (judgedIs j ≡ sixPairs (widthIs z) (judge (widthIs z) squarings b)) × DeclaredIs (widthIs z) b j
+        → (judgedIs j ≡ sixPairs (width s) (judgeSized s squarings b)) × DeclaredIs (width s) b j
+    unfolding judgeSized
+    judge-known j h =
+        let v = known-width s e k in (
+          h .0 ∙ ap (sixPairs (widthIs z)) (known-size s e k _ (λ w. judge w squarings b)) ∙ ap (λ (w : ℕ). sixPairs w (judgeSized s squarings b)) v,
+          rw (← v) (h .1),
+        )
+
+    pub evidence-known : evidence (widthIs z) squarings b ≡ evidenceSized s squarings b
+    unfolding evidenceSized
+    evidence-known = known-size s e k [] (λ w. evidence w squarings b)
+
+    pub check-known : check (widthIs z) b ≡ checkSized s b
+    unfolding checkSized
+    check-known = known-size s e k _ (λ w. check w b)

@@ -2,13 +2,15 @@
 use Rattle.arithmetic.proofs.Basics.{ℕ, zero, suc, _+_, _≤_, _<_, arith, add-one, _≡_, refl, sym, ap, _∙_, true, false, List, [], _∷_, map, eqb, length, getD}
 use Rattle.arithmetic.proofs.Basics.{drop, eq-eqb, or-true}
 use Rattle.rules.specs.Logarithm.{squarings}
-use Rattle.rules.specs.Sheet.{Pollutant, pollutants, numbers, pollutant, declares}
+use Rattle.rules.specs.Sheet.{Pollutant, morePollutants, numbers, pollutant, declares}
 use Rattle.rules.specs.Plans.{planOf}
 use Rattle.rules.specs.Series as rules
 use Rattle.rules.specs.Refusals.{greatestDeviation}
 use Rattle.accepted.specs.Sheets.{recordAt, pollutantsIn, enginesIn, AcceptedSheet}
 use Rattle.accepted.proofs.ByNumber.{InOrder}
 use Rattle.accepted.proofs.Sheets.{order, declared-length, pollutant-is}
+use Rattle.record.specs.declared.Size.{Size}
+use Rattle.record.specs.Sizes.{widthIs}
 use Rattle.faults.specs.declared.Summary.{Summary}
 use Rattle.checking.specs.Check.{Valid}
 use Rattle.checking.proofs.Laws as laws
@@ -46,49 +48,49 @@ order-at w m (p ∷ ps) d o (suc k) l =
     let r = order-at w (p .number) ps d (o .5) k (omega arith) in
     record { declared = rw (r .declared) (or-true (eqb (p .number) (getD ps k d .number))); limited = r .limited; deviating = r .deviating }
 
-abbrev pub columnsOf : Plan → List ℕ → Pollutant → ℕ → rules.Decision
-columnsOf plan b = columnOf (planIs plan) (pollutantsIn b) squarings (enginesIn b)
+abbrev pub columnsOf : (w : ℕ) → Plan → List ℕ → Pollutant → ℕ → rules.Decision
+columnsOf w plan b = columnOf (planIs plan) (pollutantsIn w b) squarings (enginesIn w b)
 
 -- an accepted sheet, its plan and its gate
-pub record Opened (b : List ℕ) (s : Summary) (plan : Plan) (g : Gate) : Type 0 where
-  pub valid : Valid b s
+pub record Opened (z : Size) (b : List ℕ) (s : Summary) (plan : Plan) (g : Gate) : Type 0 where
+  pub valid : Valid z b s
   pub planned : planIs plan ≡ planOf (s .plan)
-  pub gated : gateIs g ≡ gateOf (planIs plan) b (s .engines)
+  pub gated : gateIs g ≡ gateOf (widthIs z) (planIs plan) b (s .engines)
 
 -- what the loop keeps after k of the pollutants before the record start
-pub record Kept (b : List ℕ) (start : ℕ) (plan : Plan) (g : Gate) (k : ℕ) (t : Tally) : Type 0 where
+pub record Kept (z : Size) (b : List ℕ) (start : ℕ) (plan : Plan) (g : Gate) (k : ℕ) (t : Tally) : Type 0 where
   pub few : k ≤ start
   pub lower : t .rows ≤ rowsOf (gateIs g)
-  pub left : columns.tally (columnsOf plan b) (drop k (pollutantsIn b)) (tallyIs t)
-      ≡ columns.tally (columnsOf plan b) (pollutantsIn b) (columns.started pollutants (rowsOf (gateIs g)))
-  pub marks : columns.marked (drop k (pollutantsIn b)) (declaredIs (t .decisions)) ≡ columns.marked (pollutantsIn b) (map (λ p. false) (numbers pollutants))
+  pub left : columns.tally (columnsOf (widthIs z) plan b) (drop k (pollutantsIn (widthIs z) b)) (tallyIs t)
+      ≡ columns.tally (columnsOf (widthIs z) plan b) (pollutantsIn (widthIs z) b) (columns.started morePollutants (rowsOf (gateIs g)))
+  pub marks : columns.marked (drop k (pollutantsIn (widthIs z) b)) (declaredIs (t .decisions)) ≡ columns.marked (pollutantsIn (widthIs z) b) (map (λ p. false) (numbers morePollutants))
 
-module _ {b : List ℕ} {s : Summary} {plan : Plan} {g : Gate} (o : Opened b s plan g) where
+module _ {z : Size} {b : List ℕ} {s : Summary} {plan : Plan} {g : Gate} (o : Opened z b s plan g) where
   abbrev ps : List Pollutant
-  ps = pollutantsIn b
+  ps = pollutantsIn (widthIs z) b
 
-  pub sheet : AcceptedSheet b (planIs plan) (s .head)
+  pub sheet : AcceptedSheet (widthIs z) b (planIs plan) (s .head)
   sheet = rw (o .planned) (laws.accepted-so (o .valid))
 
-  each : (p : Pollutant) → Column (columnsOf plan b p)
-  each p = is-column (beforeIn (planIs plan) b) (rowOf (planIs plan) squarings (enginesIn b) p)
+  each : (p : Pollutant) → Column (columnsOf (widthIs z) plan b p)
+  each p = is-column (beforeIn (widthIs z) (planIs plan) b) (rowOf (planIs plan) squarings (enginesIn (widthIs z) b) p)
 
   pub kept-none : {rows : ℕ} {ds : Decisions} → rows ≡ rowsOf (gateIs g) → ds ≡ noDecisions
-      → Kept b (s .head) plan g 0 (record { rows = rows; latest = 0; failed = false; waits = false; decisions = ds })
+      → Kept z b (s .head) plan g 0 (record { rows = rows; latest = 0; failed = false; waits = false; decisions = ds })
   unfolding columns.started
   kept-none re de = rw (re, de) (record { few = omega arith; lower = omega arith; left = refl; marks = refl })
 
-  module _ {k : ℕ} {t : Tally} (kept : Kept b (s .head) plan g k t) (l : k < s .head)
-      {n L d : ℕ} (e : record { number = n; limit = L; deviation = d } ≡ pollutant (recordAt b k)) where
+  module _ {k : ℕ} {t : Tally} (kept : Kept z b (s .head) plan g k t) (l : k < s .head)
+      {n L d : ℕ} (e : record { number = n; limit = L; deviation = d } ≡ pollutant (recordAt (widthIs z) b k)) where
     is-pollutant : getD ps k (pollutant []) ≡ record { number = n; limit = L; deviation = d }
     is-pollutant = pollutant-is sheet k l ∙ sym e
 
     in-list : k < length ps
     in-list = rw (declared-length sheet) l
 
-    pub column-range : ColumnRange b (s .head) plan n L d (t .rows)
+    pub column-range : ColumnRange (widthIs z) b (s .head) plan n L d (t .rows)
     column-range =
-        let r = rw is-pollutant at (order-at pollutants 0 ps (pollutant []) (order sheet) k in-list) in
+        let r = rw is-pollutant at (order-at (widthIs z) 0 ps (pollutant []) (order sheet) k in-list) in
         record {
           sheet = sheet;
           declared = r .declared;
@@ -97,16 +99,16 @@ module _ {b : List ℕ} {s : Summary} {plan : Plan} {g : Gate} (o : Opened b s p
           inside = rw (← (laws.engines-are (o .valid)), ← (o .gated)) (kept .lower);
         }
 
-    pub kept-more : {x : Decision} → ColumnIs plan b n L d (t .rows) x → {u : Tally}
+    pub kept-more : {x : Decision} → ColumnIs (widthIs z) plan b n L d (t .rows) x → {u : Tally}
         → (tallyIs u ≡ columns.counted n (decisionIs x) (tallyIs t)) × (u .decisions ≡ decisionsWith n x (t .decisions))
-        → Kept b (s .head) plan g (k + 1) u
+        → Kept z b (s .head) plan g (k + 1) u
     kept-more {x} xe {u} ue =
         let p : Pollutant = record { number = n; limit = L; deviation = d } in
-        let w : tallyIs u ≡ columns.counted n (columnsOf plan b p (t .rows)) (tallyIs t) = ue .0 ∙ (rw (xe .decides) refl) in
+        let w : tallyIs u ≡ columns.counted n (columnsOf (widthIs z) plan b p (t .rows)) (tallyIs t) = ue .0 ∙ (rw (xe .decides) refl) in
         let f = rw is-pollutant at (marked-next ps (pollutant []) k (declaredIs (t .decisions)) in-list) in
         record {
           few = omega arith;
-          lower = omega (arith, with-most (columnsOf plan b) each p (tallyIs t), kept .lower, ap (λ (o : columns.Tally). o .rows) w);
-          left = rw (add-one k, w) (sym (rw is-pollutant at (tally-next (columnsOf plan b) ps (pollutant []) k (tallyIs t) in-list)) ∙ kept .left);
+          lower = omega (arith, with-most (columnsOf (widthIs z) plan b) each p (tallyIs t), kept .lower, ap (λ (o : columns.Tally). o .rows) w);
+          left = rw (add-one k, w) (sym (rw is-pollutant at (tally-next (columnsOf (widthIs z) plan b) ps (pollutant []) k (tallyIs t) in-list)) ∙ kept .left);
           marks = rw (add-one k, ue .1, with-declared n x (t .decisions), xe .declared) (sym f ∙ kept .marks);
         }

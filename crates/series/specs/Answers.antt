@@ -1,10 +1,11 @@
 -- What judging answers, as document 01's numbers.
-use Prim.Native.Nat.{ℕ}
+use Prim.Native.Nat.{ℕ, _-_}
 use mathlib.Core.Path.{_≡_}
 use mathlib.Core.List.{List, map}
 use Rattle.rules.specs.Logarithm.{squarings}
-use Rattle.rules.specs.Sheet.{pollutants, numbers, records, declared, declares}
+use Rattle.rules.specs.Sheet.{morePollutants, numbers, records, declared, declares}
 use Rattle.rules.specs.Series as rules
+use Rattle.rules.specs.Sizes.{openPairs}
 use Rattle.checking.specs.declared.Refusal.{Refusal}
 use Rattle.checking.specs.declared.Checked.{Checked}
 use Rattle.checking.specs.declared.Checked.the-variants as checked
@@ -43,18 +44,22 @@ abbrev pub judgedIs : Judged → rules.Answer
 judgedIs (judged.Judgement j) = judgementIs j
 judgedIs (judged.Refused r) = rules.refusal (r .number) (r .place)
 
--- a decision tells whether its pollutant is declared on the sheet b
-abbrev pub DeclaresAs : List ℕ → Decisions → Type 0
-DeclaresAs b ds = declaredIs ds ≡ map (declares (declared (records pollutants b))) (numbers pollutants)
+-- the program's judgement has six pairs: an answer for w pollutants with an open pair for each that it lacks
+abbrev pub sixPairs : (w : ℕ) → rules.Answer → rules.Answer
+sixPairs w a = openPairs (morePollutants - w) a
 
-abbrev pub DeclaredIs : List ℕ → Judged → Type 0
-DeclaredIs b (judged.Judgement j) = DeclaresAs b (j .decisions)
-DeclaredIs b (judged.Refused r) = Unit {0}
+-- a decision tells whether its pollutant is declared on the sheet b of w pollutants
+abbrev pub DeclaresAs : (w : ℕ) → List ℕ → Decisions → Type 0
+DeclaresAs w b ds = declaredIs ds ≡ map (declares (declared (records w b))) (numbers morePollutants)
+
+abbrev pub DeclaredIs : (w : ℕ) → List ℕ → Judged → Type 0
+DeclaredIs w b (judged.Judgement j) = DeclaresAs w b (j .decisions)
+DeclaredIs w b (judged.Refused r) = Unit {0}
 
 -- the judgement of an accepted sheet
-pub record JudgementIs (b : List ℕ) (j : Judgement) : Type 0 where
-  pub judges : judgementIs j ≡ rules.judgeRecords pollutants squarings (records pollutants b)
-  pub declares : DeclaresAs b (j .decisions)
+pub record JudgementIs (w : ℕ) (b : List ℕ) (j : Judgement) : Type 0 where
+  pub judges : judgementIs j ≡ sixPairs w (rules.judgeRecords w squarings (records w b))
+  pub declares : DeclaresAs w b (j .decisions)
 
 -- the refusal in the check's answer; there is none in an accepted sheet's
 abbrev pub refusalIn : Checked → Refusal

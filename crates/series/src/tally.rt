@@ -1,6 +1,7 @@
 // The columns of an accepted sheet one after the other, each to the least failing row so far, and the verdict on them together.
 ghost use mathlib.Core.Path.{_≡_};
 ghost use Rattle.columns.specs.Tally.{counted};
+ghost use Rattle.record.specs.Sizes.{widthIs};
 ghost use Rattle.checking.specs.Check.{Valid};
 ghost use Rattle.decisions.specs.Decisions.{decisionIs, decisionsWith};
 ghost use Rattle.series.specs.Answers.{JudgementIs};
@@ -15,6 +16,7 @@ use decisions::column;
 use faults::Summary;
 use plan::Plan;
 use record::STOP;
+use record::Size;
 use record::deviation_of;
 use record::limit_of;
 use record::number_of;
@@ -90,13 +92,13 @@ impl Tally {
 }
 
 // The judgement of a sheet that the check accepts: the columns of its declared pollutants, whose records stand before the first engine's, and the verdict on them together.
-pub(crate) fn judgement_of(bytes: &[u8], sheet: Summary) -> Judgement
-    requires { ⌜ Valid (now bytes) sheet ⌝ }
-    ensures { λ j. ⌜ JudgementIs (now (bytes .entry)) j ⌝ }
+pub(crate) fn judgement_of(size: Size, bytes: &[u8], sheet: Summary) -> Judgement
+    requires { ⌜ Valid size (now bytes) sheet ⌝ }
+    ensures { λ j. ⌜ JudgementIs (widthIs size) (now (bytes .entry)) j ⌝ }
 {
     let plan = Plan::of(sheet.plan);
     let start = sheet.head as usize;
-    let gate = gate_of(bytes, start, sheet.engines as usize, plan);
+    let gate = gate_of(size, bytes, start, sheet.engines as usize, plan);
     let mut t = Tally {
         rows: gate.rows(),
         latest: 0,
@@ -106,9 +108,10 @@ pub(crate) fn judgement_of(bytes: &[u8], sheet: Summary) -> Judgement
     };
     let mut k: usize = 0;
     while k < start {
-        let r = record_at(bytes, k);
+        let r = record_at(size, bytes, k);
         let number = number_of(r);
         let d = column(
+            size,
             bytes,
             start,
             plan,

@@ -10,12 +10,13 @@ use libc::STDIN_FILENO;
 use libc::STDOUT_FILENO;
 use lines::Lines;
 use printing::print;
+use record::Size;
 use transfers::Transfer;
 use transfers::read_full;
 use transfers::write_full;
 
-// A sheet leaves a byte free. An input that leaves none is longer than any sheet, and is refused whatever follows.
-const ROOM: usize = record::LONGEST + 1;
+// A sheet of 20-byte records leaves a byte free. An input that leaves none is longer than any such sheet, and is refused whatever follows.
+const ROOM: usize = Size::LONGEST_OF_TWENTY + 1;
 
 // What went wrong, as errno has it, on standard error.
 fn fail(what: &[u8]) {

@@ -1,26 +1,25 @@
 //! Plan 3 as directed sheets: every count of engines over the limit that a series can be open
 //! with at every row, and both ways on from it.
 
-use crate::draft::Pollutant;
 use crate::paper::{Chosen, Paper, Single};
-use second::Decision;
+use second::{Decision, Document, Document01};
 
 const LIMIT: u32 = 150;
 
-pub fn sheets(paper: &Paper) -> Vec<Chosen> {
+/// Of the last pollutant.
+pub fn sheets(paper: &Paper, size: usize) -> Vec<Chosen> {
+    let number = Document01.pollutants(size) as u8;
     let mut sheets = Vec::new();
     let mut open = vec![Single {
         plan: 3,
-        pollutant: Pollutant {
-            number: 4,
-            limit: LIMIT,
-            deviation: 0,
-        },
+        limit: LIMIT,
+        deviation: 0,
         measurements: Vec::new(),
     }];
     for _ in 0..paper.last_row(3) {
         let next: Vec<Single> = open.iter().flat_map(both_ways).collect();
-        sheets.extend(next.iter().map(|series| paper.chosen(series)));
+        let chosen = |series| paper.chosen(series, size, number);
+        sheets.extend(next.iter().map(chosen));
         let is_open = |series: &Single| paper.outcome(series).0 == Decision::Open;
         open = next.into_iter().filter(is_open).collect();
         open.sort_by_key(over);

@@ -1,51 +1,58 @@
 //! The calls to compare: report and append on one sheet, with lent memory of ordinary and of
-//! awkward sizes.
+//! awkward lengths, and with sizes of a record that are none.
 
+use crate::draft::{random_draft, stop_record};
 use crate::memory::{Edge, Lender};
+use crate::paper::Report;
 use crate::tally::hexadecimal;
 use random::Random;
-use second::{append, report, Document, Refusal, RECORD, REPORT};
+use second::{append, report, Document, Document01, Refusal};
+use second::{FOUR_POLLUTANTS, LONGEST_REPORT, SIX_POLLUTANTS, SIZES};
 use std::fmt;
 use std::ops::ControlFlow;
 
 /// Report and append as the bench's control program calls them, of the delivered library or of
 /// the second implementation.
 pub trait Operations {
-    fn report(&self, sheet: &[u8], output: &mut [u8]) -> u32;
-    fn append(&self, buffer: &mut [u8], used: usize, record: &[u8]) -> u32;
+    fn report(&self, size: usize, sheet: &[u8], output: &mut [u8]) -> u32;
+    fn append(&self, size: usize, buffer: &mut [u8], used: usize, record: &[u8]) -> u32;
 }
 
 /// The second implementation by some document.
 pub struct Second<'a, D: ?Sized>(pub &'a D);
 
 impl<D: Document + ?Sized> Operations for Second<'_, D> {
-    fn report(&self, sheet: &[u8], output: &mut [u8]) -> u32 {
-        code(report(self.0, sheet, output))
+    fn report(&self, size: usize, sheet: &[u8], output: &mut [u8]) -> u32 {
+        code(report(self.0, size, sheet, output))
     }
 
-    fn append(&self, buffer: &mut [u8], used: usize, record: &[u8]) -> u32 {
-        code(append(self.0, buffer, used, record))
+    fn append(&self, size: usize, buffer: &mut [u8], used: usize, record: &[u8]) -> u32 {
+        code(append(self.0, size, buffer, used, record))
     }
 }
 
 /// "Both return number 0 and record 0 on success."
-fn code(result: Result<(), Refusal>) -> u32 {
+pub fn code(result: Result<(), Refusal>) -> u32 {
     result.err().map_or(0, Refusal::code)
 }
 
-/// The report of a sheet, and what the call returns.
-pub fn reported(operations: &dyn Operations, sheet: &[u8]) -> (u32, [u8; REPORT]) {
-    let mut output = [UNWRITTEN; REPORT];
-    (operations.report(sheet, &mut output), output)
+/// What the call returns, and the report of a sheet.
+pub fn reported(operations: &dyn Operations, size: usize, sheet: &[u8]) -> (u32, Report) {
+    let mut report = [0; LONGEST_REPORT];
+    let output = &mut report[..size];
+    output.fill(UNWRITTEN);
+    (operations.report(size, sheet, output), report)
 }
 
 /// One call with all it is lent.
 pub enum Case<'a> {
     Report {
+        size: usize,
         sheet: &'a [u8],
         output: Vec<u8>,
     },
     Append {
+        size: usize,
         buffer: Vec<u8>,
         used: usize,
         record: Vec<u8>,
@@ -73,10 +80,12 @@ impl fmt::Debug for Answer {
 impl fmt::Display for Case<'_> {
     fn fmt(&self, formatter: &mut fmt::Formatter) -> fmt::Result {
         match self {
-            Case::Report { output, .. } => {
-                write!(formatter, "report into {} bytes", output.len())
+            Case::Report { size, output, .. } => {
+                let length = output.len();
+                write!(formatter, "report by {size} into {length} bytes")
             }
             Case::Append {
+                size,
                 buffer,
                 used,
                 record,
@@ -85,7 +94,7 @@ impl fmt::Display for Case<'_> {
                 let buffer = hexadecimal(buffer);
                 write!(
                     formatter,
-                    "append of {record} after {used} of {length} bytes {buffer}"
+                    "append by {size} of {record} after {used} of {length} bytes {buffer}"
                 )
             }
         }
@@ -95,24 +104,38 @@ impl fmt::Display for Case<'_> {
 impl Case<'_> {
     pub fn run(&self, operations: &dyn Operations, lender: &mut impl Lender, edge: Edge) -> Answer {
         let (code, bytes) = match self {
-            Case::Report { sheet, output } => lender.lend(sheet, output, edge, |sheet, output| {
-                operations.report(sheet, output)
+            Case::Report {
+                size,
+                sheet,
+                output,
+            } => lender.lend(sheet, output, edge, |sheet, output| {
+                operations.report(*size, sheet, output)
             }),
             Case::Append {
+                size,
                 buffer,
                 used,
                 record,
             } => lender.lend(record, buffer, edge, |record, buffer| {
-                operations.append(buffer, *used, record)
+                operations.append(*size, buffer, *used, record)
             }),
         };
         Answer { code, bytes }
     }
+
+    /// A refusal without a record: every byte is as it was lent.
+    pub fn refused(&self, number: u8) -> Answer {
+        let (Case::Report { output: lent, .. } | Case::Append { buffer: lent, .. }) = self;
+        Answer {
+            code: Refusal::of_no_record(number).code(),
+            bytes: lent.clone(),
+        }
+    }
 }
 
-/// How many of the awkward sizes a sheet is tried with.
+/// How many of the awkward lengths a sheet is tried with.
 #[derive(Clone, Copy, PartialEq, Eq)]
-pub enum Sizes {
+pub enum Lengths {
     Few,
     All,
 }
@@ -121,100 +144,163 @@ pub type Visit<'a> = dyn FnMut(&Case) -> ControlFlow<()> + 'a;
 
 /// Shows every case of one sheet.
 pub fn visit_cases(
+    size: usize,
     sheet: &[u8],
-    sizes: Sizes,
+    lengths: Lengths,
     random: &mut Random,
     visit: &mut Visit,
 ) -> ControlFlow<()> {
-    match sizes {
-        Sizes::Few => visit_few(sheet, random, visit),
-        Sizes::All => {
-            for length in [0, 1, 19, 20, 21, 28, 64] {
-                visit(&report_case(sheet, length))?;
+    match lengths {
+        Lengths::Few => visit_few(size, sheet, random, visit),
+        Lengths::All => {
+            for length in [0, 1, 19, 20, 21, 27, 28, 29, 64] {
+                visit(&report_case(size, sheet, length))?;
             }
-            visit_append_grid(sheet, visit)
+            visit_append_grid(size, sheet, visit)
         }
     }
 }
 
 /// One report, the sheet's last record appended to the others, and one awkward append.
-fn visit_few(sheet: &[u8], random: &mut Random, visit: &mut Visit) -> ControlFlow<()> {
-    visit(&report_case(sheet, REPORT + random.pick(&[0, 0, 1, 8])))?;
-    if sheet.len() >= RECORD {
-        let used = sheet.len() - RECORD;
+fn visit_few(size: usize, sheet: &[u8], random: &mut Random, visit: &mut Visit) -> ControlFlow<()> {
+    let output = size + random.pick(&[0, 0, 1, 8]);
+    visit(&report_case(size, sheet, output))?;
+    if let Some(used) = sheet.len().checked_sub(size) {
+        let length = sheet.len() + random.below(3);
         let record = sheet[used..].to_vec();
-        visit(&append_case(
-            sheet,
-            sheet.len() + random.below(3),
-            used,
-            record,
-        ))?;
+        visit(&append_case(size, sheet, length, used, record))?;
     }
-    let buffers = buffer_lengths(sheet.len());
-    let used = used_lengths(sheet.len());
-    let record = random.pick(&records(sheet));
-    let (length, used) = (random.pick(&buffers), random.pick(&used));
-    visit(&append_case(sheet, length, used, record.bytes(sheet)))
+    let length = random.pick(&buffer_lengths(size, sheet.len()));
+    let used = random.pick(&used_lengths(size, sheet.len()));
+    let record = random.pick(&records(size, sheet)).bytes(size, sheet);
+    visit(&append_case(size, sheet, length, used, record))
 }
 
-fn visit_append_grid(sheet: &[u8], visit: &mut Visit) -> ControlFlow<()> {
-    for record in records(sheet) {
-        for length in buffer_lengths(sheet.len()) {
-            for used in used_lengths(sheet.len()) {
-                visit(&append_case(sheet, length, used, record.bytes(sheet)))?;
+fn visit_append_grid(size: usize, sheet: &[u8], visit: &mut Visit) -> ControlFlow<()> {
+    for record in records(size, sheet) {
+        for length in buffer_lengths(size, sheet.len()) {
+            for used in used_lengths(size, sheet.len()) {
+                let record = record.bytes(size, sheet);
+                visit(&append_case(size, sheet, length, used, record))?;
             }
         }
     }
     ControlFlow::Continue(())
+}
+
+/// One pollutant and no engine.
+fn shortest_sheet(size: usize) -> Vec<u8> {
+    let mut sheet = vec![1, 1, 3, 0, 150];
+    sheet.resize(size, 0);
+    sheet
 }
 
 /// Report and append with every part that is lent empty or not.
-pub fn visit_empty(visit: &mut Visit) -> ControlFlow<()> {
-    let sheet = [1, 1, 3, 0, 150, 0, 0, 0, 0, 0, 0, 0, 0, 0, 0, 0, 0, 0, 0, 0];
+pub fn visit_empty(size: usize, visit: &mut Visit) -> ControlFlow<()> {
+    let sheet = shortest_sheet(size);
     for sheet in [&[][..], &sheet] {
-        for length in [0, REPORT] {
-            visit(&report_case(sheet, length))?;
+        for length in [0, size] {
+            visit(&report_case(size, sheet, length))?;
         }
     }
-    for length in [0, 2 * RECORD] {
+    for length in [0, 2 * size] {
         for record in [&[][..], &sheet] {
-            for used in [0, 1, RECORD, RECORD + 1, usize::MAX] {
-                visit(&append_case(&sheet, length, used, record.to_vec()))?;
+            for used in [0, 1, size, size + 1, usize::MAX] {
+                visit(&append_case(size, &sheet, length, used, record.to_vec()))?;
             }
         }
     }
     ControlFlow::Continue(())
 }
 
-/// Not exact, one short, exact and to spare, before and after the record is added.
-fn buffer_lengths(sheet: usize) -> [usize; 10] {
+/// Sizes of a record that are none: beside 20 and 28, between them, and those that one or four
+/// bytes of the number would take for them.
+pub const NO_SIZES: [usize; 16] = [
+    0,
+    1,
+    4,
+    19,
+    21,
+    24,
+    27,
+    29,
+    32,
+    40,
+    256 + 20,
+    256 + 28,
+    (1 << 32) + 20,
+    (1 << 32) + 28,
+    usize::MAX - 3,
+    usize::MAX,
+];
+
+/// Sheets of both sizes, no bytes, and bytes that are no sheet, to be called by sizes that are none.
+pub fn sheets_of_either_size() -> Vec<Vec<u8>> {
+    let mut random = Random::new(0x30);
+    let mut sheets = vec![vec![], vec![2; 24], vec![1; 48]];
+    for size in SIZES {
+        sheets.extend((0..8).map(|_| random_draft(size, &mut random).bytes()));
+    }
+    sheets
+}
+
+/// Report and append by sizes that are none, with what is right in either size and with what would
+/// be refused for something else.
+pub fn visit_no_sizes(visit: &mut Visit) -> ControlFlow<()> {
+    for size in NO_SIZES {
+        let [four, six] = SIZES.map(shortest_sheet);
+        for sheet in [&[][..], &four, &six, &[9; 24]] {
+            for length in [0, 1, FOUR_POLLUTANTS, 24, SIX_POLLUTANTS, 64] {
+                visit(&report_case(size, sheet, length))?;
+            }
+            for record in [&[][..], &four, &six, &[0; 24]] {
+                for length in [0, sheet.len(), sheet.len() + 24, 64] {
+                    for used in [0, 1, sheet.len(), 65, usize::MAX] {
+                        visit(&append_case(size, sheet, length, used, record.to_vec()))?;
+                    }
+                }
+            }
+        }
+    }
+    ControlFlow::Continue(())
+}
+
+/// Behind the sheet one byte less than a record of either size, as many, and one more; none, some
+/// to spare, and no sheet.
+fn buffer_lengths(size: usize, sheet: usize) -> [usize; 12] {
     [
         0,
-        19,
-        20,
-        21,
+        FOUR_POLLUTANTS,
+        SIX_POLLUTANTS,
         sheet,
         sheet + 19,
         sheet + 20,
         sheet + 21,
+        sheet + 27,
+        sheet + 28,
+        sheet + 29,
         sheet + 60,
-        800,
+        longest_buffer(size),
     ]
 }
 
-/// Before the sheet's end, at it, behind the buffer, and where adding 20 would overflow.
-fn used_lengths(sheet: usize) -> [usize; 11] {
+fn longest_buffer(size: usize) -> usize {
+    Document01.longest_sheet(size) + 60
+}
+
+/// Before the sheet's end, at it, behind the buffer, and where adding a record would overflow.
+fn used_lengths(size: usize, sheet: usize) -> [usize; 11] {
     [
         0,
         1,
-        sheet.saturating_sub(RECORD),
+        sheet.saturating_sub(size),
         sheet.saturating_sub(1),
         sheet,
         sheet + 1,
-        sheet + 21,
-        801,
-        usize::MAX - 20,
-        usize::MAX - 19,
+        sheet + size + 1,
+        longest_buffer(size) + 1,
+        usize::MAX - size,
+        usize::MAX - size + 1,
         usize::MAX,
     ]
 }
@@ -224,25 +310,26 @@ fn used_lengths(sheet: usize) -> [usize; 11] {
 enum Added {
     First,
     Last,
-    Stop,
+    Stop(usize),
     Zeros(usize),
 }
 
-fn records(sheet: &[u8]) -> Vec<Added> {
-    let mut records: Vec<Added> = [0, 19, 20, 21].map(Added::Zeros).into();
-    records.push(Added::Stop);
-    if sheet.len() >= RECORD {
+fn records(size: usize, sheet: &[u8]) -> Vec<Added> {
+    let mut records: Vec<Added> = [0, 19, 21, 27, 29].map(Added::Zeros).into();
+    records.extend([Added::Zeros(size)]);
+    records.extend(SIZES.map(Added::Stop));
+    if sheet.len() >= size {
         records.extend([Added::First, Added::Last]);
     }
     records
 }
 
 impl Added {
-    fn bytes(self, sheet: &[u8]) -> Vec<u8> {
+    fn bytes(self, size: usize, sheet: &[u8]) -> Vec<u8> {
         match self {
-            Added::First => sheet[..RECORD].to_vec(),
-            Added::Last => sheet[sheet.len() - RECORD..].to_vec(),
-            Added::Stop => crate::draft::stop_record().to_vec(),
+            Added::First => sheet[..size].to_vec(),
+            Added::Last => sheet[sheet.len() - size..].to_vec(),
+            Added::Stop(size) => stop_record(size),
             Added::Zeros(length) => vec![0; length],
         }
     }
@@ -251,19 +338,29 @@ impl Added {
 /// What memory holds before it is written: no byte of a report, no sheet.
 const UNWRITTEN: u8 = 0xA5;
 
-fn report_case(sheet: &[u8], length: usize) -> Case<'_> {
-    let output = vec![UNWRITTEN; length];
-    Case::Report { sheet, output }
+fn report_case(size: usize, sheet: &[u8], length: usize) -> Case<'_> {
+    Case::Report {
+        size,
+        sheet,
+        output: vec![UNWRITTEN; length],
+    }
 }
 
 /// A buffer of that length, with as much of the sheet as it holds and unwritten bytes behind.
-fn append_case(sheet: &[u8], length: usize, used: usize, record: Vec<u8>) -> Case<'static> {
+fn append_case(
+    size: usize,
+    sheet: &[u8],
+    length: usize,
+    used: usize,
+    record: Vec<u8>,
+) -> Case<'static> {
     let mut buffer = vec![UNWRITTEN; length];
     let held = length.min(sheet.len());
     if used > 0 {
         buffer[..held].copy_from_slice(&sheet[..held]);
     }
     Case::Append {
+        size,
         buffer,
         used,
         record,

@@ -1,17 +1,17 @@
-//! The sheets that every suite goes through: pairs on a line and series exact to a unit of W, both
-//! chosen by the paper, the directed sheets of plans 3, 4 and 5, damaged sheets for every refusal,
-//! the longest sheets, and random ones.
+//! The sheets that every suite goes through, in records of one size: pairs on a line and series
+//! exact to a unit of W, both chosen by the paper, the directed sheets of plans 3, 4 and 5, damaged
+//! sheets for every refusal, the longest sheets, sheets of the other size, and random ones.
 
 use crate::attributes;
 use crate::corrected;
-use crate::draft::{random_draft, Draft};
+use crate::draft::{random_draft, random_draft_of, random_draft_under, Draft};
 use crate::exact::{self, Stand};
 use crate::pairs::{self, Pair};
-use crate::paper::{Cell, Chosen, Paper};
-use crate::refusals::{Way, WAYS};
+use crate::paper::{Cell, Chosen, Paper, Single};
+use crate::refusals::{unused_bytes, Sheet, Way, WAYS};
 use crate::service;
 use random::Random;
-use second::{check, Document, Document01, LONGEST_SHEET, PLANS, RECORD, UNKNOWN_DEVIATION};
+use second::{check, Document, Document01, PLANS, UNKNOWN_DEVIATION};
 use std::fmt;
 use std::ops::ControlFlow;
 
@@ -22,7 +22,7 @@ pub struct Scale {
     /// Whether series exact to a unit of W are looked for.
     pub exact: bool,
     pub rounds_of_damage: usize,
-    /// One of so many of the longest sheets and of plan 4's directed ones.
+    /// One of so many of the longest sheets, of those damaged twice and of plan 4's directed ones.
     pub one_directed_in: usize,
     pub random_sheets: usize,
     pub promises: usize,
@@ -33,8 +33,8 @@ pub const FULL: Scale = Scale {
     exact: true,
     rounds_of_damage: 12,
     one_directed_in: 1,
-    random_sheets: 400_000,
-    promises: 60_000,
+    random_sheets: 250_000,
+    promises: 40_000,
 };
 
 /// A part, for a run under valgrind.
@@ -43,8 +43,8 @@ pub const QUICK: Scale = Scale {
     exact: false,
     rounds_of_damage: 4,
     one_directed_in: 16,
-    random_sheets: 1_500,
-    promises: 300,
+    random_sheets: 1_000,
+    promises: 200,
 };
 
 /// Where a sheet comes from.
@@ -57,7 +57,10 @@ pub enum Origin {
     Corrected,
     Damage(usize),
     TwoDamages(usize, usize),
+    /// By the record that has the byte.
+    Unused(usize),
     Longest,
+    OtherSize,
     Random,
 }
 
@@ -86,24 +89,25 @@ impl fmt::Display for Origin {
             Origin::TwoDamages(one, other) => {
                 write!(formatter, "{} and {}", WAYS[one].name, WAYS[other].name)
             }
-            Origin::Longest => write!(formatter, "sheet of 740 bytes"),
+            Origin::Unused(record) => {
+                write!(formatter, "byte without a field in record {record}")
+            }
+            Origin::Longest => write!(formatter, "sheet of the most records"),
+            Origin::OtherSize => write!(formatter, "sheet of the other size"),
             Origin::Random => write!(formatter, "random sheet"),
         }
     }
 }
 
-pub struct Corpus {
+/// The series that stand on a line, before they are put on sheets.
+pub struct LineSeries {
     pub paper: Paper,
     pub pairs: Vec<Pair>,
-    pub exact: Vec<(Cell, Stand, Chosen)>,
-    attributes: Vec<Chosen>,
-    corrected: Vec<Chosen>,
-    directed: Vec<(Origin, Vec<u8>)>,
-    random_sheets: usize,
+    pub exact: Vec<(Cell, Stand, Vec<Single>)>,
 }
 
-impl Corpus {
-    pub fn new(scale: Scale) -> Self {
+impl LineSeries {
+    pub fn find(scale: Scale) -> Self {
         let mut random = Random::new(0xC0FFEE);
         let paper = Paper::read();
         let mut pairs = Vec::new();
@@ -115,22 +119,64 @@ impl Corpus {
                 exact.extend(exact_series(&paper, cell, &mut random));
             }
         }
-        Corpus {
-            attributes: attributes::sheets(&paper),
-            corrected: corrected::sheets(),
-            directed: directed_sheets(scale, &mut random),
-            random_sheets: scale.random_sheets,
+        LineSeries {
             paper,
             pairs,
             exact,
         }
     }
+}
+
+/// How many series are looked for on each side of a line.
+pub const EXACT_IN_CELL: usize = 4;
+
+/// Some on each side of the line, and one on the line, as far as they are found.
+fn exact_series(paper: &Paper, cell: Cell, random: &mut Random) -> [(Cell, Stand, Vec<Single>); 3] {
+    let stands = [
+        (Stand::Deciding, EXACT_IN_CELL),
+        (Stand::Beyond, EXACT_IN_CELL),
+        (Stand::OnLine, 1),
+    ];
+    stands.map(|(stand, count)| {
+        let found = (0..count).filter_map(|_| exact::series(paper, cell, stand, random));
+        (cell, stand, found.collect())
+    })
+}
+
+pub struct Corpus {
+    /// Of the records.
+    pub size: usize,
+    pub pairs: Vec<(Cell, [Chosen; 2])>,
+    exact: Vec<(Cell, Stand, Chosen)>,
+    attributes: Vec<Chosen>,
+    corrected: Vec<Chosen>,
+    directed: Vec<(Origin, Vec<u8>)>,
+    random_sheets: usize,
+}
+
+impl Corpus {
+    pub fn new(size: usize, series: &LineSeries, scale: Scale) -> Self {
+        let LineSeries {
+            paper,
+            pairs,
+            exact,
+        } = series;
+        Corpus {
+            size,
+            pairs: pair_sheets(paper, pairs, size),
+            exact: exact_sheets(paper, exact, size),
+            attributes: attributes::sheets(paper, size),
+            corrected: corrected::sheets(size),
+            directed: directed_sheets(size, scale),
+            random_sheets: scale.random_sheets,
+        }
+    }
 
     /// The sheets that come with the report asked for.
     pub fn chosen(&self) -> impl Iterator<Item = (Origin, &Chosen)> {
-        let pairs = self.pairs.iter().flat_map(|pair| {
-            let sheets = pair.sheets.iter();
-            sheets.map(|chosen| (Origin::Pair(pair.cell), chosen))
+        let pairs = self.pairs.iter().flat_map(|(cell, sheets)| {
+            let sheets = sheets.iter();
+            sheets.map(|chosen| (Origin::Pair(*cell), chosen))
         });
         let exact = self.exact.iter();
         let exact = exact.map(|(cell, stand, chosen)| (Origin::Exact(*cell, *stand), chosen));
@@ -155,39 +201,67 @@ impl Corpus {
         }
         let mut random = Random::new(0x5EED);
         for _ in 0..self.random_sheets {
-            visit(Origin::Random, &random_sheet(&mut random))?;
+            visit(Origin::Random, &random_sheet(self.size, &mut random))?;
         }
         ControlFlow::Continue(())
     }
 }
 
-/// For each pollutant a series on each side of the line, and one on the line, as far as they are
-/// found.
-fn exact_series(paper: &Paper, cell: Cell, random: &mut Random) -> Vec<(Cell, Stand, Chosen)> {
-    let beside = (1..=4).flat_map(|number| [(Stand::Deciding, number), (Stand::Beyond, number)]);
-    beside
-        .chain([(Stand::OnLine, 1)])
-        .filter_map(|(stand, number)| {
-            let chosen = exact::series(paper, cell, stand, number, random)?;
-            Some((cell, stand, chosen))
+/// The pollutants that the size has a place for.
+fn numbers(size: usize) -> impl Iterator<Item = u8> + Clone {
+    1..=Document01.pollutants(size) as u8
+}
+
+/// Each pair is one pollutant's, by turns.
+fn pair_sheets(paper: &Paper, pairs: &[Pair], size: usize) -> Vec<(Cell, [Chosen; 2])> {
+    let by_turns = pairs.iter().zip(numbers(size).cycle());
+    by_turns
+        .map(|(Pair { cell, series }, number)| {
+            let chosen = |series| paper.chosen(series, size, number);
+            (*cell, series.each_ref().map(chosen))
         })
         .collect()
 }
 
-fn directed_sheets(scale: Scale, random: &mut Random) -> Vec<(Origin, Vec<u8>)> {
-    let in_service = labelled(Origin::InService, service::sheets());
+/// For each pollutant one of the series that stand so.
+fn exact_sheets(
+    paper: &Paper,
+    exact: &[(Cell, Stand, Vec<Single>)],
+    size: usize,
+) -> Vec<(Cell, Stand, Chosen)> {
+    let mut sheets = Vec::new();
+    for (cell, stand, series) in exact {
+        for (series, number) in series.iter().cycle().zip(numbers(size)) {
+            sheets.push((*cell, *stand, paper.chosen(series, size, number)));
+        }
+    }
+    sheets
+}
+
+fn directed_sheets(size: usize, scale: Scale) -> Vec<(Origin, Vec<u8>)> {
+    let mut random = Random::new(0xD1EC7ED);
+    let in_service = labelled(Origin::InService, service::sheets(size));
     let mut directed: Vec<_> = in_service.step_by(scale.one_directed_in).collect();
     for round in 0..scale.rounds_of_damage {
-        directed.extend(damaged_sheets(random));
-        let plan = UP_TO_32[round % UP_TO_32.len()];
-        let longest = labelled(Origin::Longest, longest_sheets(plan, random));
-        directed.extend(longest.step_by(scale.one_directed_in));
+        directed.extend(damaged_sheets(size, &mut random));
+        let longest = longest_draft(size, UP_TO_32[round % UP_TO_32.len()], &mut random);
+        let damaged = damaged_longest_sheets(size, &longest.bytes(), &mut random);
+        let damaged = damaged.into_iter().step_by(scale.one_directed_in);
+        let sheets = undamaged_longest_sheets(longest).into_iter().chain(damaged);
+        directed.extend(labelled(Origin::Longest, sheets));
+        directed.extend(labelled(Origin::OtherSize, other_sheets(size, &mut random)));
     }
-    directed.extend(twice_damaged_sheets(random));
+    let twice_damaged = twice_damaged_sheets(size, &mut random).into_iter();
+    directed.extend(twice_damaged.step_by(scale.one_directed_in));
+    let unused = unused_bytes(size, &mut random).into_iter();
+    directed.extend(unused.map(|(record, sheet)| (Origin::Unused(record), sheet)));
     directed
 }
 
-fn labelled(origin: Origin, sheets: Vec<Vec<u8>>) -> impl Iterator<Item = (Origin, Vec<u8>)> {
+fn labelled(
+    origin: Origin,
+    sheets: impl IntoIterator<Item = Vec<u8>>,
+) -> impl Iterator<Item = (Origin, Vec<u8>)> {
     sheets.into_iter().map(move |sheet| (origin, sheet))
 }
 
@@ -195,11 +269,11 @@ fn labelled(origin: Origin, sheets: Vec<Vec<u8>>) -> impl Iterator<Item = (Origi
 const TRIES: usize = 4;
 
 /// For each plan, every way to a refusal that has a place there.
-fn damaged_sheets(random: &mut Random) -> Vec<(Origin, Vec<u8>)> {
+fn damaged_sheets(size: usize, random: &mut Random) -> Vec<(Origin, Vec<u8>)> {
     let mut sheets = Vec::new();
     for plan in 1..=PLANS {
         for (index, way) in WAYS.iter().enumerate() {
-            let sheet = (0..TRIES).find_map(|_| damaged_sheet(plan, way, random));
+            let sheet = (0..TRIES).find_map(|_| damaged_sheet(size, plan, way, random));
             sheets.extend(sheet.map(|sheet| (Origin::Damage(index), sheet)));
         }
     }
@@ -207,38 +281,38 @@ fn damaged_sheets(random: &mut Random) -> Vec<(Origin, Vec<u8>)> {
 }
 
 /// None where an accepted sheet has no place for the damage, or gets too long by it.
-fn damaged_sheet(plan: u8, way: &Way, random: &mut Random) -> Option<Vec<u8>> {
-    let mut sheet = accepted_sheet(plan, random);
+fn damaged_sheet(size: usize, plan: u8, way: &Way, random: &mut Random) -> Option<Vec<u8>> {
+    let mut sheet = accepted_sheet(size, plan, random);
     let fits = (way.spoil)(&mut sheet, random);
-    (fits && (way.refusal == 1 || sheet.len() <= LONGEST_SHEET)).then_some(sheet)
+    let short = sheet.bytes.len() <= Document01.longest_sheet(size);
+    (fits && (way.refusal == 1 || short)).then_some(sheet.bytes)
 }
 
 /// Two faults on one sheet: the first record's holds, and in it the lowest number.
-fn twice_damaged_sheets(random: &mut Random) -> Vec<(Origin, Vec<u8>)> {
+fn twice_damaged_sheets(size: usize, random: &mut Random) -> Vec<(Origin, Vec<u8>)> {
     let mut sheets = Vec::new();
     for (one, first) in WAYS.iter().enumerate() {
         for (other, second) in WAYS.iter().enumerate() {
             let plan = random.between(1, PLANS.into()) as u8;
-            let mut sheet = accepted_sheet(plan, random);
+            let mut sheet = accepted_sheet(size, plan, random);
             let spoilt = (first.spoil)(&mut sheet, random);
             if spoilt && starts_with_pollutant(&sheet) && (second.spoil)(&mut sheet, random) {
-                sheets.push((Origin::TwoDamages(one, other), sheet));
+                sheets.push((Origin::TwoDamages(one, other), sheet.bytes));
             }
         }
     }
     sheets
 }
 
-fn starts_with_pollutant(sheet: &[u8]) -> bool {
-    sheet.len() >= RECORD && sheet[0] == 1
+fn starts_with_pollutant(sheet: &Sheet) -> bool {
+    sheet.bytes.len() >= sheet.size && sheet.bytes[0] == 1
 }
 
-fn accepted_sheet(plan: u8, random: &mut Random) -> Vec<u8> {
+fn accepted_sheet(size: usize, plan: u8, random: &mut Random) -> Sheet {
     loop {
-        let draft = random_draft(random);
-        let sheet = draft.bytes();
-        if draft.plan == plan && check(&Document01, &sheet).is_ok() {
-            return sheet;
+        let bytes = random_draft_under(size, plan, random).bytes();
+        if check(&Document01, size, &bytes).is_ok() {
+            return Sheet { size, bytes };
         }
     }
 }
@@ -246,23 +320,36 @@ fn accepted_sheet(plan: u8, random: &mut Random) -> Vec<u8> {
 /// The plans of the longest sheets, whose last row is 32.
 const UP_TO_32: [u8; 3] = [1, 2, 5];
 
-/// Four pollutants, 32 engines and a stop, whole and with each damage that keeps the length.
-fn longest_sheets(plan: u8, random: &mut Random) -> Vec<Vec<u8>> {
-    let sheet = longest_draft(plan, random).bytes();
-    let mut sheets = vec![sheet.clone()];
-    for way in &WAYS {
-        let mut spoilt = sheet.clone();
-        if (way.spoil)(&mut spoilt, random) && spoilt.len() == LONGEST_SHEET {
-            sheets.push(spoilt);
-        }
+/// Whole, without its stop, and with the first four pollutants alone: the longest that can be
+/// narrowed.
+fn undamaged_longest_sheets(longest: Draft) -> [Vec<u8>; 3] {
+    let mut without_stop = longest.clone();
+    without_stop.stopped = false;
+    let mut of_four = longest.clone();
+    of_four.pollutants.truncate(4);
+    for engine in &mut of_four.engines {
+        engine.measurements[4..].fill(0);
     }
-    sheets
+    [longest, without_stop, of_four].map(|draft| draft.bytes())
 }
 
-fn longest_draft(plan: u8, random: &mut Random) -> Draft {
+/// With each damage that keeps the length.
+fn damaged_longest_sheets(size: usize, longest: &[u8], random: &mut Random) -> Vec<Vec<u8>> {
+    let spoil = |way: &Way| {
+        let bytes = longest.to_vec();
+        let mut sheet = Sheet { size, bytes };
+        let fits = (way.spoil)(&mut sheet, random);
+        (fits && sheet.bytes.len() == longest.len()).then_some(sheet.bytes)
+    };
+    WAYS.iter().filter_map(spoil).collect()
+}
+
+/// Every pollutant, 32 engines and a stop.
+fn longest_draft(size: usize, plan: u8, random: &mut Random) -> Draft {
+    let all: Vec<u8> = numbers(size).collect();
     loop {
-        let mut draft = random_draft(random);
-        if draft.plan != plan || draft.pollutants.len() < 4 || draft.engines.is_empty() {
+        let mut draft = random_draft_of(size, plan, &all, random);
+        if draft.engines.is_empty() {
             continue;
         }
         while draft.engines.len() < Document01.last_row(plan) {
@@ -274,12 +361,20 @@ fn longest_draft(plan: u8, random: &mut Random) -> Draft {
     }
 }
 
+/// A sheet of the other size, and its first bytes as far as they are whole records of both: 140
+/// bytes are 7 records of 20 and 5 of 28.
+fn other_sheets(size: usize, random: &mut Random) -> Vec<Vec<u8>> {
+    let sheet = random_draft(Document01.other_size(size), random).bytes();
+    let whole = sheet[..sheet.len() - sheet.len() % 140].to_vec();
+    vec![sheet, whole]
+}
+
 /// Half of them accepted, the others damaged, changed in some bytes, or no sheet at all.
-fn random_sheet(random: &mut Random) -> Vec<u8> {
+fn random_sheet(size: usize, random: &mut Random) -> Vec<u8> {
     match random.below(8) {
-        0 => random_bytes(random),
+        0 => random_bytes(size, random),
         1 => {
-            let mut sheet = random_draft(random).bytes();
+            let mut sheet = random_draft(size, random).bytes();
             for _ in 0..random.between(1, 3) {
                 let place = random.below(sheet.len());
                 sheet[place] = random.byte();
@@ -287,25 +382,27 @@ fn random_sheet(random: &mut Random) -> Vec<u8> {
             sheet
         }
         2 | 3 => {
-            let mut sheet = random_draft(random).bytes();
+            let bytes = random_draft(size, random).bytes();
+            let mut sheet = Sheet { size, bytes };
             for _ in 0..random.between(1, 3) {
                 let way = &WAYS[random.below(WAYS.len())];
                 if starts_with_pollutant(&sheet) {
                     (way.spoil)(&mut sheet, random);
                 }
             }
-            sheet
+            sheet.bytes
         }
-        _ => random_draft(random).bytes(),
+        _ => random_draft(size, random).bytes(),
     }
 }
 
 /// Random bytes of any length, half of them with the kind of each record in range.
-fn random_bytes(random: &mut Random) -> Vec<u8> {
-    let mut sheet: Vec<u8> = (0..random.below(800)).map(|_| random.byte()).collect();
+fn random_bytes(size: usize, random: &mut Random) -> Vec<u8> {
+    let most = Document01.longest_sheet(size) + 60;
+    let mut sheet: Vec<u8> = (0..random.below(most)).map(|_| random.byte()).collect();
     if random.one_in(2) {
-        sheet.truncate(sheet.len() - sheet.len() % RECORD);
-        for start in (0..sheet.len()).step_by(RECORD) {
+        sheet.truncate(sheet.len() - sheet.len() % size);
+        for start in (0..sheet.len()).step_by(size) {
             sheet[start] = random.between(1, 3) as u8;
         }
     }

@@ -4,9 +4,9 @@
 //! P below -A root W, from there to zero, from zero to A root W, and above it. What has to be
 //! answered stands beside each series; neither the paper nor an implementation is asked.
 
-use crate::draft::Pollutant;
 use crate::paper::{Chosen, Single};
 use second::Decision::{self, Fail, Open, Pass};
+use second::{Document, Document01};
 
 const LIMIT: u32 = 2000;
 /// Double and half of the limit, whose d_j add up to zero.
@@ -35,36 +35,28 @@ const AT_32: [Answers; 5] = [
 ];
 
 /// Each series for each pollutant, under plan 2 and under plan 5.
-pub fn sheets() -> Vec<Chosen> {
+pub fn sheets(size: usize) -> Vec<Chosen> {
+    let at_31 = AT_31.map(|(first, plan_2, plan_5)| {
+        let measurements = [vec![first], IN_TURN.repeat(15)].concat();
+        (measurements, [(2, plan_2), (5, plan_5)])
+    });
+    let at_32 = AT_32.map(|(last, plan_2, plan_5)| {
+        let measurements = [IN_TURN.repeat(15), vec![4000, last]].concat();
+        (measurements, [(2, plan_2), (5, plan_5)])
+    });
     let mut sheets = Vec::new();
-    for number in 1..=4 {
-        for (first, plan_2, plan_5) in AT_31 {
-            let measurements = [vec![first], IN_TURN.repeat(15)].concat();
-            sheets.extend(under_both(number, measurements, [plan_2, plan_5]));
-        }
-        for (last, plan_2, plan_5) in AT_32 {
-            let measurements = [IN_TURN.repeat(15), vec![4000, last]].concat();
-            sheets.extend(under_both(number, measurements, [plan_2, plan_5]));
+    for number in 1..=Document01.pollutants(size) as u8 {
+        for (measurements, decisions) in at_31.iter().chain(&at_32) {
+            for &(plan, decision) in decisions {
+                let series = Single {
+                    plan,
+                    limit: LIMIT,
+                    deviation: 0,
+                    measurements: measurements.clone(),
+                };
+                sheets.push(series.with_report(size, number, decision, measurements.len()));
+            }
         }
     }
     sheets
-}
-
-fn under_both(number: u8, measurements: Vec<u32>, decisions: [Decision; 2]) -> [Chosen; 2] {
-    let n = measurements.len();
-    let pollutant = Pollutant {
-        number,
-        limit: LIMIT,
-        deviation: 0,
-    };
-    let chosen = |plan, decision| {
-        let measurements = measurements.clone();
-        let series = Single {
-            plan,
-            pollutant,
-            measurements,
-        };
-        series.with_report(decision, n)
-    };
-    [chosen(2, decisions[0]), chosen(5, decisions[1])]
 }

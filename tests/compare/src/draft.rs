@@ -1,7 +1,7 @@
-//! A sheet in the making, as document 01's records describe it.
+//! A sheet in the making, as document 01's records describe it, and F-10's with six pollutants.
 
 use random::Random;
-use second::{judge, Document, Document01, Judgement, Verdict, PLANS, RECORD};
+use second::{judge, Document, Document01, Judgement, Verdict, MOST_POLLUTANTS, PLANS};
 
 pub const LARGEST: u32 = 9_999_999;
 
@@ -12,14 +12,19 @@ pub struct Pollutant {
     pub deviation: u32,
 }
 
+/// By pollutant number less one; a sheet of four pollutants has the first four.
+pub type Measurements = [u32; MOST_POLLUTANTS];
+
 #[derive(Clone, Copy)]
 pub struct Engine {
     pub cause: u16,
-    pub measurements: [u32; 4],
+    pub measurements: Measurements,
 }
 
 #[derive(Clone)]
 pub struct Draft {
+    /// Of its records.
+    pub size: usize,
     pub plan: u8,
     pub pollutants: Vec<Pollutant>,
     pub engines: Vec<Engine>,
@@ -49,8 +54,9 @@ const SPREADS: [Spread; 7] = [
 ];
 
 impl Draft {
-    pub fn new(plan: u8, pollutants: Vec<Pollutant>) -> Self {
+    pub fn new(size: usize, plan: u8, pollutants: Vec<Pollutant>) -> Self {
         Draft {
+            size,
             plan,
             pollutants,
             engines: Vec::new(),
@@ -59,27 +65,29 @@ impl Draft {
     }
 
     pub fn bytes(&self) -> Vec<u8> {
-        let mut sheet = Vec::with_capacity(760);
+        let mut sheet = Vec::with_capacity(Document01.longest_sheet(self.size));
         for pollutant in &self.pollutants {
             sheet.extend([1, pollutant.number, self.plan, 0]);
             sheet.extend(pollutant.limit.to_le_bytes());
             sheet.extend(pollutant.deviation.to_le_bytes());
-            sheet.extend([0; 8]);
+            end_record(&mut sheet, self.size);
         }
+        let measured = Document01.pollutants(self.size);
         for engine in &self.engines {
             sheet.extend([2, 0]);
             sheet.extend(engine.cause.to_le_bytes());
-            sheet.extend(engine.measurements.iter().flat_map(|x| x.to_le_bytes()));
+            let measurements = engine.measurements[..measured].iter();
+            sheet.extend(measurements.flat_map(|x| x.to_le_bytes()));
         }
         if self.stopped {
-            sheet.extend(stop_record());
+            sheet.extend(stop_record(self.size));
         }
         sheet
     }
 
     /// What document 01 answers, for a draft that is an accepted sheet.
     pub fn judged(&self) -> Judgement {
-        judge(&Document01, &self.bytes()).expect("an accepted sheet")
+        judge(&Document01, self.size, &self.bytes()).expect("an accepted sheet")
     }
 
     pub fn is_undecided(&self) -> bool {
@@ -87,7 +95,7 @@ impl Draft {
     }
 
     /// Adds an engine; under plan 4 a gross emitter gets the cause.
-    pub fn test(&mut self, measurements: [u32; 4], cause: u16) {
+    pub fn test(&mut self, measurements: Measurements, cause: u16) {
         let gross = self.plan == 4 && self.is_gross_emitter(measurements);
         self.engines.push(Engine {
             cause: if gross { cause } else { 0 },
@@ -95,7 +103,7 @@ impl Draft {
         });
     }
 
-    fn is_gross_emitter(&self, measurements: [u32; 4]) -> bool {
+    fn is_gross_emitter(&self, measurements: Measurements) -> bool {
         self.pollutants.iter().any(|pollutant| {
             let x = measurements[usize::from(pollutant.number) - 1];
             u64::from(x) * 2 > u64::from(pollutant.limit) * 3
@@ -103,22 +111,41 @@ impl Draft {
     }
 }
 
-pub fn stop_record() -> [u8; RECORD] {
-    let mut record = [0; RECORD];
-    record[0] = 3;
+/// Zeros to the end of the record that is begun.
+fn end_record(sheet: &mut Vec<u8>, size: usize) {
+    sheet.resize(sheet.len().next_multiple_of(size), 0);
+}
+
+pub fn stop_record(size: usize) -> Vec<u8> {
+    let mut record = vec![3];
+    end_record(&mut record, size);
     record
 }
 
 /// A random sheet that the check accepts, or now and then one with an engine too many or with a
 /// stop under plan 4.
-pub fn random_draft(random: &mut Random) -> Draft {
+pub fn random_draft(size: usize, random: &mut Random) -> Draft {
     let plan = random.between(1, PLANS.into()) as u8;
-    let mut draft = Draft::new(plan, random_pollutants(random, plan));
-    let spreads: Vec<Spread> = draft
-        .pollutants
-        .iter()
-        .map(|_| random.pick(&SPREADS))
-        .collect();
+    random_draft_under(size, plan, random)
+}
+
+pub fn random_draft_under(size: usize, plan: u8, random: &mut Random) -> Draft {
+    let numbers = random_numbers(size, random);
+    random_draft_of(size, plan, &numbers, random)
+}
+
+/// With these pollutants.
+pub fn random_draft_of(size: usize, plan: u8, numbers: &[u8], random: &mut Random) -> Draft {
+    let pollutants = numbers.iter().map(|&number| Pollutant {
+        number,
+        limit: random_limit(random),
+        deviation: match plan {
+            1 => random_deviation(random),
+            _ => 0,
+        },
+    });
+    let mut draft = Draft::new(size, plan, pollutants.collect());
+    let spreads: Vec<Spread> = numbers.iter().map(|_| random.pick(&SPREADS)).collect();
     let count = random_count(random, Document01.last_row(plan));
     let kept_open = random.one_in(4);
     for _ in 0..count {
@@ -143,23 +170,17 @@ fn test_one(random: &mut Random, draft: &mut Draft, spreads: &[Spread], tries: u
     }
 }
 
-fn random_pollutants(random: &mut Random, plan: u8) -> Vec<Pollutant> {
+/// One pollutant alone, or any of them.
+fn random_numbers(size: usize, random: &mut Random) -> Vec<u8> {
+    let pollutants = Document01.pollutants(size);
     let declared = if random.one_in(3) {
-        1 << random.below(4)
+        1 << random.below(pollutants)
     } else {
-        random.between(1, 15)
+        random.between(1, (1 << pollutants) - 1)
     };
-    (1..=4)
+    let numbers = 1..=pollutants as u8;
+    numbers
         .filter(|number| declared >> (number - 1) & 1 == 1)
-        .map(|number| Pollutant {
-            number,
-            limit: random_limit(random),
-            deviation: if plan == 1 {
-                random_deviation(random)
-            } else {
-                0
-            },
-        })
         .collect()
 }
 
@@ -197,8 +218,8 @@ fn random_cause(random: &mut Random) -> u16 {
     }
 }
 
-fn random_measurements(random: &mut Random, draft: &Draft, spreads: &[Spread]) -> [u32; 4] {
-    let mut measurements = [0; 4];
+fn random_measurements(random: &mut Random, draft: &Draft, spreads: &[Spread]) -> Measurements {
+    let mut measurements = [0; MOST_POLLUTANTS];
     let tame = draft.plan == 4 && !random.one_in(6);
     for (pollutant, &spread) in draft.pollutants.iter().zip(spreads) {
         let x = random_measurement(random, pollutant.limit, spread);

@@ -6,11 +6,11 @@
 //! are chosen at random, and the last three solved for. On the line, with c in lowest terms as
 //! p / q, D = p k and the root of W is q k for some k.
 //!
-//! A series of each pollutant is found on both sides in every row, and one on the line wherever
-//! there can be one; the comparison fails where one is not.
+//! Several series are found on both sides in every row, and one on the line wherever there can be
+//! one; the comparison fails where one is not.
 
-use crate::draft::{Pollutant, LARGEST};
-use crate::paper::{Cell, Chosen, Line, Paper, Single};
+use crate::draft::LARGEST;
+use crate::paper::{Cell, Line, Paper, Single};
 use random::Random;
 use second::{Decision, Document, Document01};
 
@@ -36,14 +36,8 @@ pub enum Stand {
     Beyond,
 }
 
-/// A series of a pollutant that stands so by the cell's line, if one is found.
-pub fn series(
-    paper: &Paper,
-    cell: Cell,
-    stand: Stand,
-    number: u8,
-    random: &mut Random,
-) -> Option<Chosen> {
+/// A series that stands so by the cell's line, if one is found.
+pub fn series(paper: &Paper, cell: Cell, stand: Stand, random: &mut Random) -> Option<Single> {
     let (c, n) = (paper.number(cell) as i64, cell.row as i64);
     let skewed = cell.plan == 4 && cell.line == Line::Last;
     let widest = widest_spread(cell.plan, c, skewed);
@@ -55,12 +49,7 @@ pub fn series(
         };
         let target = target?;
         let differences = target.differences(skewed, random)?;
-        let pollutant = Pollutant {
-            number,
-            limit: target.limit(),
-            deviation: 0,
-        };
-        let series = single(cell.plan, pollutant, differences)?;
+        let series = single(cell.plan, target.limit(), differences)?;
         in_order(paper, cell, stand, series, random)
     })
 }
@@ -156,12 +145,13 @@ fn w_beside(line: Line, c: i64, sum: i64, stand: Stand) -> i64 {
 }
 
 /// The measurements that have these d_j; none if one of them is out of reach.
-fn single(plan: u8, pollutant: Pollutant, differences: Vec<i64>) -> Option<Single> {
-    let measured = |d| measurement(plan, pollutant.limit, d);
+fn single(plan: u8, limit: u32, differences: Vec<i64>) -> Option<Single> {
+    let measured = |d| measurement(plan, limit, d);
     let measurements: Option<Vec<u32>> = differences.into_iter().map(measured).collect();
     Some(Single {
         plan,
-        pollutant,
+        limit,
+        deviation: 0,
         measurements: measurements?,
     })
 }
@@ -173,12 +163,13 @@ fn in_order(
     stand: Stand,
     mut series: Single,
     random: &mut Random,
-) -> Option<Chosen> {
+) -> Option<Single> {
     let wanted = (decision(cell.line, stand), cell.row);
-    (0..ORDERS).find_map(|_| {
+    let found = (0..ORDERS).any(|_| {
         random.shuffle(&mut series.measurements);
-        (paper.outcome(&series) == wanted).then(|| paper.chosen(&series))
-    })
+        paper.outcome(&series) == wanted
+    });
+    found.then_some(series)
 }
 
 /// What the row says of a series that stands so.

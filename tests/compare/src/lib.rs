@@ -1,12 +1,14 @@
 //! What the programs of the comparison share: the sheets, the calls, the lent memory and the
 //! counting. `compare` holds report and append of the delivered library against the second
 //! implementation; `compare_probe` holds the logarithm, evidence, the printed lines and the reader,
-//! and the logarithm also against its bracket; `compare_declared` holds declared values with their
-//! tests.
+//! and the logarithm also against its bracket; `compare_convert` holds the converter, and what it
+//! makes against the sheets that it was given; `compare_declared` holds declared values with their
+//! tests. Sheets are of records of 20 bytes, and again of records of 28.
 
 pub mod attributes;
 pub mod bracket;
 pub mod cases;
+pub mod conversions;
 pub mod corpus;
 pub mod corrected;
 pub mod declared;

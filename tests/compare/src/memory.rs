@@ -37,6 +37,17 @@ pub enum Edge {
     End,
 }
 
+impl Edge {
+    /// The start at every eighth call.
+    pub fn of_call(call: usize) -> Self {
+        if call.is_multiple_of(8) {
+            Edge::Start
+        } else {
+            Edge::End
+        }
+    }
+}
+
 /// How a slice without bytes is handed to C.
 #[derive(Clone, Copy)]
 pub enum Empty {

@@ -1,15 +1,15 @@
-//! Pairs that stand on a line: two sheets that differ by 1 in one measurement, or in the
+//! Pairs that stand on a line: two series that differ by 1 in one measurement, or in the
 //! deviation t, and get different reports. They are found by bisection, for every plan, every
 //! row and each of its lines that can decide there.
 
-use crate::draft::{Pollutant, LARGEST};
-use crate::paper::{Cell, Chosen, Line, Paper, Single, Sums};
+use crate::draft::LARGEST;
+use crate::paper::{Cell, Line, Paper, Single, Sums};
 use random::Random;
 use second::Decision;
 
 pub struct Pair {
     pub cell: Cell,
-    pub sheets: [Chosen; 2],
+    pub series: [Single; 2],
 }
 
 /// How often a series is started anew before a cell is given up.
@@ -60,7 +60,7 @@ impl Trial {
             Knob::Measurement => {
                 *series.measurements.last_mut().expect("an engine is tested") = value;
             }
-            Knob::Deviation => series.pollutant.deviation = value,
+            Knob::Deviation => series.deviation = value,
         }
         series
     }
@@ -81,7 +81,7 @@ impl Trial {
         let (mut values, most) = match knob {
             Knob::Deviation => (Vec::new(), 4_000_000),
             Knob::Measurement => {
-                let most = largest_measurement(self.series.plan, self.series.pollutant.limit);
+                let most = largest_measurement(self.series.plan, self.series.limit);
                 (self.series.measurements.clone(), most)
             }
         };
@@ -104,8 +104,8 @@ fn find_pair(paper: &Paper, cell: Cell, knob: Knob, random: &mut Random) -> Opti
     let (inside, outside) = bisect(on(one_side)?, on(other_side)?, |value| {
         decision(value) == Some(one_side)
     });
-    let sheets = [inside, outside].map(|value| paper.chosen(&trial.turned(knob, value)));
-    (decision(outside) == Some(other_side)).then_some(Pair { cell, sheets })
+    let series = [inside, outside].map(|value| trial.turned(knob, value));
+    (decision(outside) == Some(other_side)).then_some(Pair { cell, series })
 }
 
 /// Two neighbours, the first with the property and the second without.
@@ -144,15 +144,12 @@ impl Style {
 
     /// Under plan 1 the measurements lie by the deviation.
     fn measurement(&self, series: &Single, random: &mut Random) -> u32 {
-        let Pollutant {
-            limit, deviation, ..
-        } = series.pollutant;
         let octaves = match series.plan {
-            1 => f64::from(deviation) / 1_000_000.0 * (random.fraction() * 4.0 - 2.0),
+            1 => f64::from(series.deviation) / 1_000_000.0 * (random.fraction() * 4.0 - 2.0),
             _ => self.centre + self.width * (random.fraction() * 2.0 - 1.0),
         };
-        let x = (f64::from(limit) * octaves.exp2()).round() as u32;
-        x.clamp(1, largest_measurement(series.plan, limit))
+        let x = (f64::from(series.limit) * octaves.exp2()).round() as u32;
+        x.clamp(1, largest_measurement(series.plan, series.limit))
     }
 }
 
@@ -161,7 +158,11 @@ fn random_trial(paper: &Paper, cell: Cell, random: &mut Random) -> Option<Trial>
     let Cell { plan, row, .. } = cell;
     let mut series = Single {
         plan,
-        pollutant: random_pollutant(plan, random),
+        limit: random_limit(random),
+        deviation: match plan {
+            1 => random.magnitude(50_000, 4_000_000),
+            _ => 0,
+        },
         measurements: Vec::with_capacity(row),
     };
     let style = match row {
@@ -171,7 +172,7 @@ fn random_trial(paper: &Paper, cell: Cell, random: &mut Random) -> Option<Trial>
             width: random.fraction() + 0.3,
         },
     };
-    let mut before = Sums::none(series.pollutant);
+    let mut before = Sums::none(&series);
     for _ in 1..row {
         let mut tries = std::iter::repeat_with(|| style.measurement(&series, random)).take(30);
         let x = tries.find(|&x| paper.row(plan, &before.with(x)) == Decision::Open)?;
@@ -183,17 +184,9 @@ fn random_trial(paper: &Paper, cell: Cell, random: &mut Random) -> Option<Trial>
     Some(Trial { series, before })
 }
 
-fn random_pollutant(plan: u8, random: &mut Random) -> Pollutant {
-    Pollutant {
-        number: random.between(1, 4) as u8,
-        limit: match random.below(4) {
-            0 => random.magnitude(10, 10_000),
-            _ => random.magnitude(100_000, 6_000_000),
-        },
-        deviation: if plan == 1 {
-            random.magnitude(50_000, 4_000_000)
-        } else {
-            0
-        },
+fn random_limit(random: &mut Random) -> u32 {
+    match random.below(4) {
+        0 => random.magnitude(10, 10_000),
+        _ => random.magnitude(100_000, 6_000_000),
     }
 }

@@ -6,7 +6,8 @@
 
 use crate::draft::{Draft, Pollutant};
 use crate::tally::Tally;
-use second::{Column, Decision, Document, Document01, Ground, Verdict, PLANS, REPORT};
+use second::{Column, Decision, Document, Document01, Ground, Verdict};
+use second::{LONGEST_REPORT, MOST_POLLUTANTS, PLANS};
 
 const PAGE: &str = concat!(env!("CARGO_MANIFEST_DIR"), "/../../docs/FORMAT.md");
 const HEADER: &str =
@@ -40,18 +41,20 @@ pub struct Cell {
     pub line: Line,
 }
 
-/// A series of one pollutant.
+/// A series of one pollutant, whichever it is.
 #[derive(Clone)]
 pub struct Single {
     pub plan: u8,
-    pub pollutant: Pollutant,
+    pub limit: u32,
+    pub deviation: u32,
     pub measurements: Vec<u32>,
 }
 
 /// One pollutant after n engines.
 #[derive(Clone, Copy)]
 pub struct Sums {
-    pollutant: Pollutant,
+    limit: u32,
+    deviation: u32,
     limit_logarithm: i128,
     n: usize,
     /// D, and the sum of the d_j squared.
@@ -61,10 +64,13 @@ pub struct Sums {
     over: i128,
 }
 
+/// A report, with zeros behind one that is shorter.
+pub type Report = [u8; LONGEST_REPORT];
+
 /// A sheet, and the report that the paper asks for.
 pub struct Chosen {
     pub sheet: Vec<u8>,
-    pub report: [u8; REPORT],
+    pub report: Report,
 }
 
 impl Paper {
@@ -153,7 +159,7 @@ impl Paper {
 
     /// The decision and the engine that brought it; open at the last engine where none did.
     pub fn outcome(&self, series: &Single) -> (Decision, usize) {
-        let mut sums = Sums::none(series.pollutant);
+        let mut sums = Sums::none(series);
         for &x in &series.measurements {
             sums = sums.with(x);
             let decision = self.row(series.plan, &sums);
@@ -164,10 +170,10 @@ impl Paper {
         (Decision::Open, sums.n)
     }
 
-    /// The series as a sheet, with its report.
-    pub fn chosen(&self, series: &Single) -> Chosen {
+    /// The series of this pollutant as a sheet of that size, with its report.
+    pub fn chosen(&self, series: &Single, size: usize, number: u8) -> Chosen {
         let (decision, n) = self.outcome(series);
-        series.with_report(decision, n)
+        series.with_report(size, number, decision, n)
     }
 
     /// The page's table against the printed columns. Of these, plan 5's alone has a fail number in
@@ -199,40 +205,46 @@ fn number(cell: &str) -> Option<i128> {
 }
 
 impl Single {
-    pub fn bytes(&self) -> Vec<u8> {
-        let mut draft = Draft::new(self.plan, vec![self.pollutant]);
+    fn bytes(&self, size: usize, number: u8) -> Vec<u8> {
+        let pollutant = Pollutant {
+            number,
+            limit: self.limit,
+            deviation: self.deviation,
+        };
+        let mut draft = Draft::new(size, self.plan, vec![pollutant]);
         for &x in &self.measurements {
-            let mut measurements = [0; 4];
-            measurements[usize::from(self.pollutant.number) - 1] = x;
+            let mut measurements = [0; MOST_POLLUTANTS];
+            measurements[usize::from(number) - 1] = x;
             draft.test(measurements, 0);
         }
         draft.bytes()
     }
 
     /// The sheet, with the report of a decision at row n, or of none after n engines: mark,
-    /// verdict, ground, engine, four pairs.
-    pub fn with_report(&self, decision: Decision, n: usize) -> Chosen {
+    /// verdict, ground, engine, a pair for each pollutant.
+    pub fn with_report(&self, size: usize, number: u8, decision: Decision, n: usize) -> Chosen {
         let (verdict, ground) = match decision {
             Decision::Open => (Verdict::Another, Ground::None),
             Decision::Pass => (Verdict::Pass, Ground::Row),
             Decision::Fail => (Verdict::Fail, Ground::Row),
         };
-        let mut report = [0; REPORT];
+        let mut report = [0; LONGEST_REPORT];
         report[..4].copy_from_slice(&[16, verdict as u8, ground as u8, n as u8]);
         if decision != Decision::Open {
-            let place = 2 + 2 * usize::from(self.pollutant.number);
+            let place = 2 + 2 * usize::from(number);
             report[place..place + 2].copy_from_slice(&[decision as u8, n as u8]);
         }
-        let sheet = self.bytes();
+        let sheet = self.bytes(size, number);
         Chosen { sheet, report }
     }
 }
 
 impl Sums {
-    pub fn none(pollutant: Pollutant) -> Self {
+    pub fn none(series: &Single) -> Self {
         Sums {
-            pollutant,
-            limit_logarithm: i128::from(Document01.g(pollutant.limit)),
+            limit: series.limit,
+            deviation: series.deviation,
+            limit_logarithm: i128::from(Document01.g(series.limit)),
             n: 0,
             d: 0,
             squares: 0,
@@ -247,14 +259,14 @@ impl Sums {
             n: self.n + 1,
             d: self.d + d,
             squares: self.squares + d * d,
-            over: self.over + i128::from(x > self.pollutant.limit),
+            over: self.over + i128::from(x > self.limit),
             ..self
         }
     }
 
     fn pass(&self, plan: u8, a: i128) -> bool {
         match plan {
-            1 => -self.d * 693_147_181 > a * i128::from(self.pollutant.deviation) * 1_048_576,
+            1 => -self.d * 693_147_181 > a * i128::from(self.deviation) * 1_048_576,
             2 | 4 | 5 => self.p() <= self.root(a),
             3 => self.over <= a,
             _ => unreachable!("the page has no plan {plan}"),
@@ -263,7 +275,7 @@ impl Sums {
 
     fn fail(&self, plan: u8, b: i128) -> bool {
         match plan {
-            1 => -self.d * 693_147_181 < b * i128::from(self.pollutant.deviation) * 1_048_576,
+            1 => -self.d * 693_147_181 < b * i128::from(self.deviation) * 1_048_576,
             2 | 4 | 5 => self.p() >= self.root(b),
             3 => self.over >= b,
             _ => unreachable!("the page has no plan {plan}"),

@@ -41,20 +41,34 @@ impl Mutants {
         println!("{}: caught by {caught_by}", wrong.description);
     }
 
-    /// Each has to be caught in the one way.
+    /// One wrong variant that has to be shown in either size.
+    pub fn note_both(&mut self, wrong: &Wrong, caught_by: [Option<String>; 2]) {
+        let [four, six] = caught_by;
+        let both = four.zip(six);
+        self.note(wrong, both.map(|(four, six)| format!("{four}, {six}")));
+    }
+
+    /// Each has to be caught in the one way, in records of either size, by sheets of its plan.
     pub fn try_families(
         &mut self,
         families: Vec<Family>,
-        is_caught: impl Fn(&dyn Document) -> bool,
+        is_caught: impl Fn(u8, &dyn Document) -> bool,
     ) {
-        for Family { title, readings } in families {
+        for Family {
+            title,
+            plan,
+            readings,
+        } in families
+        {
             let survivors: Vec<&str> = readings
                 .iter()
-                .filter(|wrong| !is_caught(wrong.reading.as_ref()))
+                .filter(|wrong| !is_caught(plan, wrong.reading.as_ref()))
                 .map(|wrong| wrong.description.as_str())
                 .collect();
             let caught = readings.len() - survivors.len();
-            println!("{title}: {caught} caught by report, not caught: {survivors:?}");
+            println!(
+                "{title}: {caught} caught by report in either size, not caught: {survivors:?}"
+            );
             self.tried += readings.len();
             self.survivors += survivors.len();
         }

@@ -1,24 +1,25 @@
 //! Demand 3 as a property of random sheets, on the second implementation itself: a decision is
 //! kept by every longer sheet, a full sheet is decided, and under plans 1 and 3 lower
 //! measurements never make a pass later or a fail sooner. Of plan 5, F-6 says: "Keeping a decision
-//! and ending at 32 hold for it too."
+//! and ending at 32 hold for it too"; and F-10: "Keeping a decision, ending and lowering hold for
+//! either size".
 
 use crate::draft::{random_draft, Draft};
 use crate::tally::Tally;
 use random::Random;
-use second::{check, judge, Document, Document01, Judgement, Verdict, PLANS, RECORD};
+use second::{check, judge, Document, Document01, Judgement, Verdict, PLANS};
 use std::collections::BTreeMap;
 
 /// How often a promise was put to the test, by plan.
 type Counts = BTreeMap<u8, u64>;
 
-/// Looks at `count` accepted sheets and prints how often each promise was put to the test.
-pub fn keep(count: usize, tally: &mut Tally) {
+/// Looks at `count` sheets and prints how often each promise was put to the test.
+pub fn keep(size: usize, count: usize, tally: &mut Tally) {
     let mut random = Random::new(0xD3);
     let [mut kept, mut full, mut lower] = [const { Counts::new() }; 3];
     for _ in 0..count {
-        let draft = random_draft(&mut random);
-        if check(&Document01, &draft.bytes()).is_err() {
+        let draft = random_draft(size, &mut random);
+        if check(&Document01, size, &draft.bytes()).is_err() {
             continue;
         }
         *kept.entry(draft.plan).or_default() += decision_is_kept(&draft, tally);
@@ -48,8 +49,9 @@ fn decision_is_kept(draft: &Draft, tally: &mut Tally) -> u64 {
     let sheet = draft.bytes();
     let whole = draft.judged();
     let mut looked_at = 0;
-    for length in (RECORD..sheet.len()).step_by(RECORD) {
-        let begun = judge(&Document01, &sheet[..length]).expect("the start of an accepted sheet");
+    for length in (draft.size..sheet.len()).step_by(draft.size) {
+        let begun = judge(&Document01, draft.size, &sheet[..length]);
+        let begun = begun.expect("the start of an accepted sheet");
         if begun.verdict != Verdict::Another {
             tally.expect(begun == whole, &sheet, "a longer sheet keeps the decision");
             looked_at += 1;

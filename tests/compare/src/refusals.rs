@@ -1,22 +1,31 @@
 //! "What each operation turns down": every way to each refusal, as damage done to an accepted
 //! sheet.
 
-use crate::draft::stop_record;
+use crate::draft::{random_draft, stop_record};
 use random::Random;
-use second::{Document, Document01, LONGEST_SHEET, PLANS, RECORD};
+use second::{Document, Document01, PLANS};
+use std::ops::Range;
 
 /// One way to a refusal. `spoil` tells whether the sheet had a place for it.
 pub struct Way {
     pub refusal: u8,
     pub name: &'static str,
-    pub spoil: fn(&mut Vec<u8>, &mut Random) -> bool,
+    pub spoil: fn(&mut Sheet, &mut Random) -> bool,
+}
+
+/// A sheet to be damaged.
+#[derive(Clone)]
+pub struct Sheet {
+    /// Of its records.
+    pub size: usize,
+    pub bytes: Vec<u8>,
 }
 
 const POLLUTANT: u8 = 1;
 const ENGINE: u8 = 2;
 const STOP: u8 = 3;
 
-const fn way(refusal: u8, name: &'static str, spoil: fn(&mut Vec<u8>, &mut Random) -> bool) -> Way {
+const fn way(refusal: u8, name: &'static str, spoil: fn(&mut Sheet, &mut Random) -> bool) -> Way {
     Way {
         refusal,
         name,
@@ -24,179 +33,204 @@ const fn way(refusal: u8, name: &'static str, spoil: fn(&mut Vec<u8>, &mut Rando
     }
 }
 
-pub const WAYS: [Way; 42] = [
+pub const WAYS: [Way; 45] = [
     way(1, "no bytes", |sheet, _| {
-        sheet.clear();
+        sheet.bytes.clear();
         true
     }),
     way(1, "a record cut short", |sheet, random| {
-        sheet.truncate(sheet.len() - random.between(1, 19) as usize);
+        let cut = 1 + random.below(sheet.size - 1);
+        sheet.bytes.truncate(sheet.bytes.len() - cut);
         true
     }),
     way(1, "bytes after the last record", |sheet, random| {
-        sheet.resize(sheet.len() + random.between(1, 19) as usize, 0);
+        let more = 1 + random.below(sheet.size - 1);
+        sheet.bytes.resize(sheet.bytes.len() + more, 0);
         true
     }),
-    way(1, "over 740 bytes", |sheet, random| {
-        sheet.resize(LONGEST_SHEET + random.between(1, 3) as usize * RECORD, 2);
+    way(1, "a record more than the most", |sheet, _| {
+        sheet.resize(Document01.most_records(sheet.size) + 1);
         true
     }),
+    way(
+        1,
+        "two or three records more than the most",
+        |sheet, random| {
+            let more = random.between(2, 3) as usize;
+            sheet.resize(Document01.most_records(sheet.size) + more);
+            true
+        },
+    ),
     way(2, "kind 0", |sheet, random| {
-        set(sheet, random, any_kind, 0..1, |_| 0)
+        sheet.set(random, any_kind, 0..1, |_| 0)
     }),
     way(2, "kind 4 to 255", |sheet, random| {
-        set(sheet, random, any_kind, 0..1, |random| {
+        sheet.set(random, any_kind, 0..1, |random| {
             random.between(4, 255) as u8
         })
     }),
     way(3, "an engine first", |sheet, _| {
-        sheet.drain(..end_of(sheet, POLLUTANT));
-        sheet.first() == Some(&ENGINE)
+        sheet.bytes.drain(..sheet.end_of(POLLUTANT));
+        sheet.bytes.first() == Some(&ENGINE)
     }),
     way(3, "a stop first", |sheet, _| {
-        insert(sheet, 0, &stop_record())
+        sheet.insert(0, &stop_record(sheet.size))
     }),
     way(3, "a pollutant after an engine", |sheet, _| {
-        let pollutant = sheet[..RECORD].to_vec();
-        has(sheet, ENGINE) && insert(sheet, end_of(sheet, ENGINE), &pollutant)
+        let pollutant = sheet.bytes[..sheet.size].to_vec();
+        sheet.has(ENGINE) && sheet.insert(sheet.end_of(ENGINE), &pollutant)
     }),
     way(3, "a pollutant after a stop", |sheet, _| {
-        let pollutant = sheet[..RECORD].to_vec();
-        has(sheet, STOP) && insert(sheet, sheet.len(), &pollutant)
+        let pollutant = sheet.bytes[..sheet.size].to_vec();
+        sheet.has(STOP) && sheet.insert(sheet.bytes.len(), &pollutant)
     }),
     way(3, "an engine after a stop", |sheet, _| {
-        let Some(engine) = first(sheet, ENGINE) else {
+        let Some(engine) = sheet.first(ENGINE) else {
             return false;
         };
-        has(sheet, STOP) && insert(sheet, sheet.len(), &engine)
+        sheet.has(STOP) && sheet.insert(sheet.bytes.len(), &engine)
     }),
     way(3, "a stop after a stop", |sheet, _| {
-        has(sheet, STOP) && insert(sheet, sheet.len(), &stop_record())
+        let stop = stop_record(sheet.size);
+        sheet.has(STOP) && sheet.insert(sheet.bytes.len(), &stop)
     }),
     way(4, "pollutant 0", |sheet, random| {
-        set(sheet, random, is_pollutant, 1..2, |_| 0)
+        sheet.set(random, is_pollutant, 1..2, |_| 0)
     }),
-    way(4, "pollutant 5 to 255", |sheet, random| {
-        set(sheet, random, is_pollutant, 1..2, |random| {
-            random.between(5, 255) as u8
+    way(4, "the pollutant behind the last", |sheet, random| {
+        let number = sheet.last_pollutant() + 1;
+        sheet.set(random, is_pollutant, 1..2, |_| number)
+    }),
+    way(4, "pollutant 8 to 255", |sheet, random| {
+        sheet.set(random, is_pollutant, 1..2, |random| {
+            random.between(8, 255) as u8
         })
     }),
     way(4, "the same pollutant again", |sheet, _| {
-        let pollutant = sheet[..RECORD].to_vec();
-        insert(sheet, RECORD, &pollutant)
+        let pollutant = sheet.bytes[..sheet.size].to_vec();
+        sheet.insert(sheet.size, &pollutant)
     }),
     way(4, "a pollutant below the one before", |sheet, _| {
-        let mut pollutant = sheet[..RECORD].to_vec();
-        let last = end_of(sheet, POLLUTANT);
+        let mut pollutant = sheet.bytes[..sheet.size].to_vec();
+        let last = sheet.end_of(POLLUTANT);
         pollutant[1] = 1;
-        sheet[last - RECORD + 1] > 1 && insert(sheet, last, &pollutant)
+        sheet.bytes[last - sheet.size + 1] > 1 && sheet.insert(last, &pollutant)
     }),
     way(5, "plan 0", |sheet, random| {
-        set(sheet, random, is_pollutant, 2..3, |_| 0)
+        sheet.set(random, is_pollutant, 2..3, |_| 0)
     }),
     way(5, "plan 6", |sheet, random| {
-        set(sheet, random, is_pollutant, 2..3, |_| PLANS + 1)
+        sheet.set(random, is_pollutant, 2..3, |_| PLANS + 1)
     }),
     way(5, "plan 7 to 255", |sheet, random| {
-        set(sheet, random, is_pollutant, 2..3, |random| {
+        sheet.set(random, is_pollutant, 2..3, |random| {
             random.between(u32::from(PLANS) + 2, 255) as u8
         })
     }),
     way(5, "plan unlike the first", |sheet, random| {
-        let last = end_of(sheet, POLLUTANT) - RECORD;
-        sheet[last + 2] = random.between(1, PLANS.into()) as u8;
-        last > 0 && sheet[last + 2] != sheet[2]
+        let last = sheet.end_of(POLLUTANT) - sheet.size;
+        sheet.bytes[last + 2] = random.between(1, PLANS.into()) as u8;
+        last > 0 && sheet.bytes[last + 2] != sheet.plan()
     }),
     way(6, "limit 0", |sheet, random| {
-        set_u32(sheet, random, is_pollutant, 4, |_| 0)
+        sheet.set_u32(random, is_pollutant, 4, |_| 0)
     }),
     way(6, "limit over 9,999,999", |sheet, random| {
-        set_u32(sheet, random, is_pollutant, 4, above_range)
+        sheet.set_u32(random, is_pollutant, 4, above_range)
     }),
     way(7, "no deviation in plan 1", |sheet, random| {
-        sheet[2] == 1 && set_u32(sheet, random, is_pollutant, 8, |_| 0)
+        sheet.plan() == 1 && sheet.set_u32(random, is_pollutant, 8, |_| 0)
     }),
     way(7, "deviation over 4,000,000 in plan 1", |sheet, random| {
-        sheet[2] == 1
-            && set_u32(sheet, random, is_pollutant, 8, |random| {
+        sheet.plan() == 1
+            && sheet.set_u32(random, is_pollutant, 8, |random| {
                 random.pick(&[4_000_001, 9_999_999, (1 << 24) + 4000, 1 << 31, u32::MAX])
             })
     }),
     way(7, "deviation outside plan 1", |sheet, random| {
-        sheet[2] != 1
-            && set_u32(sheet, random, is_pollutant, 8, |random| {
+        sheet.plan() != 1
+            && sheet.set_u32(random, is_pollutant, 8, |random| {
                 random.pick(&[1, 256, 1 << 16, 1 << 24, 500_000, u32::MAX])
             })
     }),
     way(8, "measurement 0", |sheet, random| {
-        let place = measurement_place(sheet, random, true);
-        place.is_some_and(|place| set_u32(sheet, random, is_engine, place, |_| 0))
+        let place = sheet.measurement_place(random, true);
+        place.is_some_and(|place| sheet.set_u32(random, is_engine, place, |_| 0))
     }),
     way(8, "measurement over 9,999,999", |sheet, random| {
-        let place = measurement_place(sheet, random, true);
-        place.is_some_and(|place| set_u32(sheet, random, is_engine, place, above_range))
+        let place = sheet.measurement_place(random, true);
+        place.is_some_and(|place| sheet.set_u32(random, is_engine, place, above_range))
     }),
     way(
         8,
         "measurement of an undeclared pollutant",
         |sheet, random| {
-            let place = measurement_place(sheet, random, false);
-            place.is_some_and(|place| {
-                set_u32(sheet, random, is_engine, place, |random| {
-                    random.pick(&[1, 256, 1 << 16, 1 << 24, 4000, u32::MAX])
-                })
-            })
+            let place = sheet.measurement_place(random, false);
+            place.is_some_and(|place| sheet.set_u32(random, is_engine, place, not_zero_u32))
+        },
+    ),
+    way(
+        8,
+        "measurement of the last pollutant, undeclared",
+        |sheet, random| {
+            let last = sheet.last_pollutant();
+            !sheet.declares(last) && sheet.set_u32(random, is_engine, place_of(last), not_zero_u32)
+        },
+    ),
+    way(
+        8,
+        "measurement of the last pollutant but one, undeclared",
+        |sheet, random| {
+            let number = sheet.last_pollutant() - 1;
+            !sheet.declares(number)
+                && sheet.set_u32(random, is_engine, place_of(number), not_zero_u32)
         },
     ),
     way(9, "cause outside plan 4", |sheet, random| {
-        sheet[2] != 4
-            && set(sheet, random, is_engine, 2..4, |random| {
-                random.pick(&[1, 7, 255])
-            })
+        sheet.plan() != 4 && sheet.set(random, is_engine, 2..4, |random| random.pick(&[1, 7, 255]))
     }),
     way(9, "a gross emitter without cause", |sheet, random| {
-        sheet[2] == 4 && set_cause(sheet, random, is_gross_emitter, 0)
+        sheet.plan() == 4 && sheet.set_cause(random, is_gross_emitter, 0)
     }),
     way(9, "a gross emitter with cause 65,535", |sheet, random| {
-        sheet[2] == 4 && set_cause(sheet, random, is_gross_emitter, 65_535)
+        sheet.plan() == 4 && sheet.set_cause(random, is_gross_emitter, 65_535)
     }),
     way(
         9,
         "cause of a vehicle that is no gross emitter",
         |sheet, random| {
             let cause = random.pick(&[1, 256, 65_534, 65_535]);
-            sheet[2] == 4 && set_cause(sheet, random, is_tame_vehicle, cause)
+            sheet.plan() == 4 && sheet.set_cause(random, is_tame_vehicle, cause)
         },
     ),
     way(10, "an engine too many", |sheet, _| {
-        fill_over_last_row(sheet)
+        sheet.fill_over_last_row()
     }),
     way(11, "a stop after the pollutants in plan 4", |sheet, _| {
-        sheet[2] == 4 && insert(sheet, end_of(sheet, POLLUTANT), &stop_record())
+        let stop = stop_record(sheet.size);
+        sheet.plan() == 4 && sheet.insert(sheet.end_of(POLLUTANT), &stop)
     }),
     way(11, "a stop after a vehicle in plan 4", |sheet, _| {
-        sheet[2] == 4 && has(sheet, ENGINE) && insert(sheet, sheet.len(), &stop_record())
+        let stop = stop_record(sheet.size);
+        sheet.plan() == 4 && sheet.has(ENGINE) && sheet.insert(sheet.bytes.len(), &stop)
     }),
     way(12, "byte 3 of a pollutant", |sheet, random| {
-        set(sheet, random, is_pollutant, 3..4, not_zero)
+        sheet.set(random, is_pollutant, 3..4, not_zero)
     }),
-    way(12, "bytes 12 to 19 of a pollutant", |sheet, random| {
-        set(sheet, random, is_pollutant, 12..20, not_zero)
+    way(12, "bytes from 12 on of a pollutant", |sheet, random| {
+        sheet.set(random, is_pollutant, 12..sheet.size, not_zero)
     }),
     way(12, "byte 1 of an engine", |sheet, random| {
-        set(sheet, random, is_engine, 1..2, not_zero)
+        sheet.set(random, is_engine, 1..2, not_zero)
     }),
-    way(12, "bytes 1 to 3 of a stop", |sheet, random| {
-        set(sheet, random, is_stop, 1..4, not_zero)
+    way(12, "bytes 1 to 11 of a stop", |sheet, random| {
+        sheet.set(random, is_stop, 1..12, not_zero)
     }),
-    way(12, "bytes 4 to 11 of a stop", |sheet, random| {
-        set(sheet, random, is_stop, 4..12, not_zero)
+    way(12, "bytes from 12 on of a stop", |sheet, random| {
+        sheet.set(random, is_stop, 12..sheet.size, not_zero)
     }),
-    way(12, "bytes 12 to 18 of a stop", |sheet, random| {
-        set(sheet, random, is_stop, 12..19, not_zero)
-    }),
-    way(12, "byte 19 of a stop", |sheet, random| {
-        set(sheet, random, is_stop, 19..20, not_zero)
+    way(12, "the last byte of a stop", |sheet, random| {
+        sheet.set(random, is_stop, sheet.size - 1..sheet.size, not_zero)
     }),
 ];
 
@@ -231,6 +265,10 @@ fn not_zero(random: &mut Random) -> u8 {
     random.pick(&[1, 2, 128, 255])
 }
 
+fn not_zero_u32(random: &mut Random) -> u32 {
+    random.pick(&[1, 256, 1 << 16, 1 << 24, 4000, u32::MAX])
+}
+
 /// Among them numbers whose lower bytes alone are in the range.
 fn above_range(random: &mut Random) -> u32 {
     random.pick(&[
@@ -243,96 +281,140 @@ fn above_range(random: &mut Random) -> u32 {
     ])
 }
 
-fn has(sheet: &[u8], kind: u8) -> bool {
-    first(sheet, kind).is_some()
+/// The place of a pollutant's measurement in an engine's record.
+fn place_of(number: u8) -> usize {
+    4 * usize::from(number)
 }
 
-fn first(sheet: &[u8], kind: u8) -> Option<Vec<u8>> {
-    let mut records = sheet.chunks_exact(RECORD);
-    records.find(|record| record[0] == kind).map(<[u8]>::to_vec)
+impl Sheet {
+    fn records(&self) -> impl DoubleEndedIterator<Item = &[u8]> + ExactSizeIterator {
+        self.bytes.chunks_exact(self.size)
+    }
+
+    /// By the first record.
+    fn plan(&self) -> u8 {
+        self.bytes[2]
+    }
+
+    /// The last pollutant that the size has a place for.
+    fn last_pollutant(&self) -> u8 {
+        Document01.pollutants(self.size) as u8
+    }
+
+    fn declares(&self, number: u8) -> bool {
+        self.records()
+            .any(|record| is_pollutant(record) && record[1] == number)
+    }
+
+    fn has(&self, kind: u8) -> bool {
+        self.first(kind).is_some()
+    }
+
+    fn first(&self, kind: u8) -> Option<Vec<u8>> {
+        let record = self.records().find(|record| record[0] == kind);
+        record.map(<[u8]>::to_vec)
+    }
+
+    /// Where the last record of a kind ends; 0 if there is none.
+    fn end_of(&self, kind: u8) -> usize {
+        let place = self.records().rposition(|record| record[0] == kind);
+        place.map_or(0, |place| (place + 1) * self.size)
+    }
+
+    fn insert(&mut self, place: usize, record: &[u8]) -> bool {
+        self.bytes.splice(place..place, record.iter().copied());
+        true
+    }
+
+    /// To so many records, the added ones of kind 2.
+    fn resize(&mut self, records: usize) {
+        self.bytes.resize(records * self.size, ENGINE);
+    }
+
+    /// The start of a random record of those chosen.
+    fn choose(&self, random: &mut Random, choice: Choice) -> Option<usize> {
+        let chosen = self.records().enumerate();
+        let chosen = chosen.filter(|(_, record)| choice(record));
+        let places: Vec<usize> = chosen.map(|(place, _)| place * self.size).collect();
+        (!places.is_empty()).then(|| random.pick(&places))
+    }
+
+    /// Writes these bytes at a place of a random record of those chosen.
+    fn write(&mut self, random: &mut Random, choice: Choice, place: usize, bytes: &[u8]) -> bool {
+        let Some(start) = self.choose(random, choice) else {
+            return false;
+        };
+        self.bytes[start + place..][..bytes.len()].copy_from_slice(bytes);
+        true
+    }
+
+    /// Sets one byte, at a random place in the range, of a random record of those chosen.
+    fn set(
+        &mut self,
+        random: &mut Random,
+        choice: Choice,
+        range: Range<usize>,
+        value: impl Fn(&mut Random) -> u8,
+    ) -> bool {
+        let place = range.start + random.below(range.len());
+        let value = value(random);
+        self.write(random, choice, place, &[value])
+    }
+
+    fn set_u32(
+        &mut self,
+        random: &mut Random,
+        choice: Choice,
+        place: usize,
+        value: fn(&mut Random) -> u32,
+    ) -> bool {
+        let value = value(random);
+        self.write(random, choice, place, &value.to_le_bytes())
+    }
+
+    fn set_cause(&mut self, random: &mut Random, choice: Choice, cause: u16) -> bool {
+        self.write(random, choice, 2, &cause.to_le_bytes())
+    }
+
+    /// The place in an engine's record of the measurement of a declared or undeclared pollutant.
+    fn measurement_place(&self, random: &mut Random, declared: bool) -> Option<usize> {
+        let numbers = 1..=self.last_pollutant();
+        let numbers: Vec<u8> = numbers
+            .filter(|&number| self.declares(number) == declared)
+            .collect();
+        (!numbers.is_empty()).then(|| place_of(random.pick(&numbers)))
+    }
+
+    /// Repeats the first engine until there is one more than the plan's last row.
+    fn fill_over_last_row(&mut self) -> bool {
+        let Some(engine) = self.first(ENGINE) else {
+            return false;
+        };
+        let tested = self.records().filter(|record| is_engine(record)).count();
+        let missing = (Document01.last_row(self.plan()) + 1).saturating_sub(tested);
+        self.insert(self.end_of(ENGINE), &engine.repeat(missing))
+    }
 }
 
-/// Where the last record of a kind ends; 0 if there is none.
-fn end_of(sheet: &[u8], kind: u8) -> usize {
-    let place = sheet
-        .chunks_exact(RECORD)
-        .rposition(|record| record[0] == kind);
-    place.map_or(0, |place| (place + 1) * RECORD)
-}
-
-fn insert(sheet: &mut Vec<u8>, place: usize, record: &[u8]) -> bool {
-    sheet.splice(place..place, record.iter().copied());
-    true
-}
-
-/// The start of a random record of those chosen.
-fn choose(sheet: &[u8], random: &mut Random, choice: Choice) -> Option<usize> {
-    let chosen = |&place: &usize| choice(&sheet[place..place + RECORD]);
-    let places: Vec<usize> = (0..sheet.len() - sheet.len() % RECORD)
-        .step_by(RECORD)
-        .filter(chosen)
-        .collect();
-    (!places.is_empty()).then(|| random.pick(&places))
-}
-
-/// Sets one byte, at a random place in the range, of a random record of those chosen.
-fn set(
-    sheet: &mut [u8],
-    random: &mut Random,
-    choice: Choice,
-    range: std::ops::Range<usize>,
-    value: fn(&mut Random) -> u8,
-) -> bool {
-    let Some(start) = choose(sheet, random, choice) else {
-        return false;
+/// Every byte without a field, not zero in one bit, on a sheet that has no other fault: of a
+/// pollutant, of an engine and of a stop. Each sheet comes with the record that has the byte.
+pub fn unused_bytes(size: usize, random: &mut Random) -> Vec<(usize, Vec<u8>)> {
+    let sheet = loop {
+        let draft = random_draft(size, random);
+        if draft.plan != 4 && draft.stopped && draft.engines.len() == 1 {
+            break draft.bytes();
+        }
     };
-    sheet[start + range.start + random.below(range.len())] = value(random);
-    true
-}
-
-fn set_u32(
-    sheet: &mut [u8],
-    random: &mut Random,
-    choice: Choice,
-    place: usize,
-    value: fn(&mut Random) -> u32,
-) -> bool {
-    let Some(start) = choose(sheet, random, choice) else {
-        return false;
-    };
-    sheet[start + place..start + place + 4].copy_from_slice(&value(random).to_le_bytes());
-    true
-}
-
-fn set_cause(sheet: &mut [u8], random: &mut Random, choice: Choice, cause: u16) -> bool {
-    let Some(start) = choose(sheet, random, choice) else {
-        return false;
-    };
-    sheet[start + 2..start + 4].copy_from_slice(&cause.to_le_bytes());
-    true
-}
-
-/// The place in an engine's record of the measurement of a declared or undeclared pollutant.
-fn measurement_place(sheet: &[u8], random: &mut Random, declared: bool) -> Option<usize> {
-    let is_declared = |number: u8| {
-        let mut records = sheet.chunks_exact(RECORD);
-        records.any(|record| is_pollutant(record) && record[1] == number)
-    };
-    let numbers: Vec<u8> = (1..=4)
-        .filter(|&number| is_declared(number) == declared)
-        .collect();
-    (!numbers.is_empty()).then(|| 4 * usize::from(random.pick(&numbers)))
-}
-
-/// Repeats the first engine until there is one more than the plan's last row.
-fn fill_over_last_row(sheet: &mut Vec<u8>) -> bool {
-    let Some(engine) = first(sheet, ENGINE) else {
-        return false;
-    };
-    let tested = sheet
-        .chunks_exact(RECORD)
-        .filter(|record| is_engine(record))
-        .count();
-    let missing = (Document01.last_row(sheet[2]) + 1).saturating_sub(tested);
-    insert(sheet, end_of(sheet, ENGINE), &engine.repeat(missing))
+    let stop = sheet.len() / size - 1;
+    let of_pollutant = [3].into_iter().chain(12..size).map(|byte| (0, byte));
+    let of_stop = (1..size).map(|byte| (stop, byte));
+    let mut sheets = Vec::new();
+    for (record, byte) in of_pollutant.chain([(stop - 1, 1)]).chain(of_stop) {
+        for bit in 0..8 {
+            let mut sheet = sheet.clone();
+            sheet[record * size + byte] = 1 << bit;
+            sheets.push((record, sheet));
+        }
+    }
+    sheets
 }

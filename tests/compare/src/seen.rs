@@ -1,14 +1,15 @@
-//! What the compared answers showed: every refusal, every verdict with its ground under every plan
-//! that can end so, and a pair in every cell of the table of lines. What was never seen was never
-//! compared.
+//! What the compared answers showed in records of one size: every refusal, every verdict with its
+//! ground under every plan that can end so, every pollutant passed and failed and the only one by
+//! which a vehicle is a gross emitter, the longest sheets; and a pair in every cell of the table of
+//! lines. What was never seen was never compared.
 
 use crate::cases::{Answer, Case};
-use crate::corpus::Corpus;
+use crate::corpus::{LineSeries, EXACT_IN_CELL};
 use crate::exact::{has_series_on_line, Stand};
 use crate::paper::{Cell, Line};
-use crate::tally::Tally;
-use second::{PLANS, UNKNOWN_DEVIATION};
-use std::collections::BTreeMap;
+use crate::tally::{Kinds, Tally};
+use second::{check, Document, Document01, Series, PLANS, UNKNOWN_DEVIATION};
+use std::fmt;
 
 /// Verdict and ground as they go together.
 const ENDINGS: [(u8, u8, &str); 6] = [
@@ -20,13 +21,6 @@ const ENDINGS: [(u8, u8, &str); 6] = [
     (3, 4, "referred"),
 ];
 
-#[derive(Default)]
-pub struct Seen {
-    refusals: BTreeMap<u8, u64>,
-    /// By plan, verdict and ground.
-    endings: BTreeMap<(u8, u8, u8), u64>,
-}
-
 /// Equal cause and referral are plan 4's, which has no stop.
 fn can_end(plan: u8, ground: u8) -> bool {
     match ground {
@@ -36,60 +30,154 @@ fn can_end(plan: u8, ground: u8) -> bool {
     }
 }
 
+/// One kind of answer.
+#[derive(Clone, Copy, PartialEq, Eq, PartialOrd, Ord)]
+enum Kind {
+    Refusal(u8),
+    Ending { plan: u8, verdict: u8, ground: u8 },
+    Decision { pollutant: usize, decision: u8 },
+    GrossEmitterBy { pollutant: usize },
+    Records(usize),
+    TooManyRecords(usize),
+}
+
+impl fmt::Display for Kind {
+    fn fmt(&self, formatter: &mut fmt::Formatter) -> fmt::Result {
+        match *self {
+            Kind::Refusal(number) => write!(formatter, "refusal {number:2}"),
+            Kind::Ending {
+                plan,
+                verdict,
+                ground,
+            } => {
+                let mut endings = ENDINGS.into_iter();
+                let ending = endings.find(|ending| (ending.0, ending.1) == (verdict, ground));
+                let name = ending.map_or("no ending", |ending| ending.2);
+                write!(formatter, "plan {plan}, {name}")
+            }
+            Kind::Decision {
+                pollutant,
+                decision,
+            } => {
+                let word = ["open", "pass", "fail"][usize::from(decision)];
+                write!(formatter, "pollutant {pollutant}, {word}")
+            }
+            Kind::GrossEmitterBy { pollutant } => {
+                write!(formatter, "gross emitter by pollutant {pollutant} alone")
+            }
+            Kind::Records(records) => write!(formatter, "accepted with {records} records"),
+            Kind::TooManyRecords(records) => write!(formatter, "refused for {records} records"),
+        }
+    }
+}
+
+/// What has to be seen in records of this size.
+fn demanded(size: usize) -> Vec<Kind> {
+    let mut kinds: Vec<Kind> = (1..=15).map(Kind::Refusal).collect();
+    for plan in 1..=PLANS {
+        let endings = ENDINGS.into_iter();
+        let endings = endings.filter(|ending| can_end(plan, ending.1));
+        kinds.extend(endings.map(|(verdict, ground, _)| Kind::Ending {
+            plan,
+            verdict,
+            ground,
+        }));
+    }
+    for pollutant in 1..=Document01.pollutants(size) {
+        kinds.extend([1, 2].map(|decision| Kind::Decision {
+            pollutant,
+            decision,
+        }));
+        kinds.push(Kind::GrossEmitterBy { pollutant });
+    }
+    let most = Document01.most_records(size);
+    kinds.extend([most - 1, most].map(Kind::Records));
+    kinds.push(Kind::TooManyRecords(most + 1));
+    kinds
+}
+
+#[derive(Default)]
+pub struct Seen(Kinds<Kind>);
+
 impl Seen {
     pub fn note(&mut self, case: &Case, answer: &Answer) {
         let number = (answer.code / 256) as u8;
         if number > 0 {
-            *self.refusals.entry(number).or_default() += 1;
-        } else if let Case::Report { sheet, .. } = case {
-            let ending = (sheet[2], answer.bytes[1], answer.bytes[2]);
-            *self.endings.entry(ending).or_default() += 1;
+            self.0.count(Kind::Refusal(number));
+        }
+        if let Case::Report { size, sheet, .. } = case {
+            match number {
+                0 => self.note_report(*size, sheet, &answer.bytes),
+                1 if sheet.len().is_multiple_of(*size) => {
+                    self.0.count(Kind::TooManyRecords(sheet.len() / size));
+                }
+                _ => {}
+            }
         }
     }
 
-    pub fn print(&self, tally: &mut Tally) {
-        for number in 1..=15 {
-            match self.refusals.get(&number) {
-                Some(count) => println!("  refusal {number:2}: {count} answers"),
-                None => tally.gap(&format!("refusal {number}")),
+    fn note_report(&mut self, size: usize, sheet: &[u8], report: &[u8]) {
+        self.0.count(Kind::Ending {
+            plan: sheet[2],
+            verdict: report[1],
+            ground: report[2],
+        });
+        for pollutant in 1..=Document01.pollutants(size) {
+            let decision = report[2 + 2 * pollutant];
+            self.0.count(Kind::Decision {
+                pollutant,
+                decision,
+            });
+        }
+        self.0.count(Kind::Records(sheet.len() / size));
+        if sheet[2] == 4 {
+            let series = check(&Document01, size, sheet).expect("an accepted sheet");
+            self.note_gross_emitters(&series);
+        }
+    }
+
+    fn note_gross_emitters(&mut self, series: &Series) {
+        for engine in series.engines() {
+            let over = |&place: &usize| {
+                Document01.is_gross(Document01.measurement(engine, place), series.limits[place])
+            };
+            let over: Vec<usize> = (0..series.limits.len()).filter(over).collect();
+            if let [place] = over[..] {
+                let pollutant = place + 1;
+                self.0.count(Kind::GrossEmitterBy { pollutant });
             }
         }
-        for plan in 1..=PLANS {
-            let endings = ENDINGS.into_iter();
-            for (verdict, ground, name) in endings.filter(|ending| can_end(plan, ending.1)) {
-                match self.endings.get(&(plan, verdict, ground)) {
-                    Some(count) => println!("  plan {plan}, {name}: {count} answers"),
-                    None => tally.gap(&format!("plan {plan}, {name}")),
-                }
-            }
-        }
+    }
+
+    pub fn print(&self, size: usize, tally: &mut Tally) {
+        self.0.print(size, demanded(size), tally);
     }
 }
 
 /// The table of pairs: a dash where no series can decide.
-pub fn print_pairs(corpus: &Corpus, tally: &mut Tally) {
+pub fn print_pairs(series: &LineSeries, tally: &mut Tally) {
     println!("pairs on a line (plan, row, pass, fail; = where pass and fail share the line)");
-    print_table(corpus, 1..=PLANS, 1, tally, |cell| {
-        let pairs = corpus.pairs.iter();
+    print_table(series, 1..=PLANS, 1, tally, |cell| {
+        let pairs = series.pairs.iter();
         vec![pairs.filter(|pair| pair.cell == cell).count()]
     });
-    println!("  {} pairs, each parted", corpus.pairs.len());
+    println!("  {} pairs, each parted in either size", series.pairs.len());
 }
 
 /// The table of series that are exact to a unit of W: how many have the last W that decides, and
-/// how many one unit beyond; one for each pollutant has to be there. Then the rows with a series on
-/// the line itself, which are all that have one.
-pub fn print_exact(corpus: &Corpus, tally: &mut Tally) {
+/// how many one unit beyond. Then the rows with a series on the line itself, which are all that
+/// have one.
+pub fn print_exact(series: &LineSeries, tally: &mut Tally) {
     println!("series with the last W that decides/one unit beyond, by plan, row and line");
-    print_table(corpus, UNKNOWN_DEVIATION, 4, tally, |cell| {
+    print_table(series, UNKNOWN_DEVIATION, EXACT_IN_CELL, tally, |cell| {
         [Stand::Deciding, Stand::Beyond]
-            .map(|stand| count_exact(corpus, cell, stand))
+            .map(|stand| count_exact(series, cell, stand))
             .into()
     });
-    let found = |cell: &Cell| count_exact(corpus, *cell, Stand::OnLine) > 0;
+    let found = |cell: &Cell| count_exact(series, *cell, Stand::OnLine) > 0;
     for plan in UNKNOWN_DEVIATION {
         for (fail, line) in [(false, "pass"), (true, "fail")] {
-            let cells = corpus.paper.cells().into_iter();
+            let cells = series.paper.cells().into_iter();
             let cells = cells.filter(|cell| cell.plan == plan && (cell.line == Line::Fail) == fail);
             let (on_line, none): (Vec<Cell>, Vec<Cell>) = cells.partition(found);
             let rows: Vec<usize> = on_line.iter().map(|cell| cell.row).collect();
@@ -101,23 +189,22 @@ pub fn print_exact(corpus: &Corpus, tally: &mut Tally) {
     }
 }
 
-fn count_exact(corpus: &Corpus, cell: Cell, stand: Stand) -> usize {
-    let exact = corpus.exact.iter();
-    exact
-        .filter(|(at, how, _)| (*at, *how) == (cell, stand))
-        .count()
+fn count_exact(series: &LineSeries, cell: Cell, stand: Stand) -> usize {
+    let exact = series.exact.iter();
+    let exact = exact.filter(|(at, how, _)| (*at, *how) == (cell, stand));
+    exact.map(|(_, _, found)| found.len()).sum()
 }
 
 /// A line for each row of the plans, with the counts of its cells, which have to be at least so
 /// many.
 fn print_table(
-    corpus: &Corpus,
+    series: &LineSeries,
     plans: impl IntoIterator<Item = u8>,
     least: usize,
     tally: &mut Tally,
     counts: impl Fn(Cell) -> Vec<usize>,
 ) {
-    let cells = corpus.paper.cells();
+    let cells = series.paper.cells();
     let mut shown = |cell: Cell| {
         if !cells.contains(&cell) {
             return None;
@@ -130,7 +217,7 @@ fn print_table(
         Some(counts.join("/"))
     };
     for plan in plans {
-        for row in 3..=corpus.paper.last_row(plan) {
+        for row in 3..=series.paper.last_row(plan) {
             let lines = [Line::Pass, Line::Fail, Line::Last];
             let [pass, fail, last] = lines.map(|line| shown(Cell { plan, row, line }));
             let dash = "-".to_string();

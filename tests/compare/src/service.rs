@@ -3,28 +3,29 @@
 
 use crate::draft::{Draft, Pollutant};
 use random::Random;
+use second::{Document, Document01, MOST_POLLUTANTS};
 
 const LIMIT: u32 = 1000;
 const GROSS: u32 = 1501;
 
 /// Every placing of two or three gross emitters among up to 15 vehicles, with causes equal or
 /// not, over series that pass, fail or stay open otherwise.
-pub fn sheets() -> Vec<Vec<u8>> {
+pub fn sheets(size: usize) -> Vec<Vec<u8>> {
     let mut random = Random::new(0x5E41);
     let mut sheets = Vec::new();
     for count in 3..=15 {
         for tame in [Tame::Low, Tame::Mixed, Tame::High] {
-            sheets.push(series(count, &[], tame, &mut random));
+            sheets.push(series(size, count, &[], tame, &mut random));
             for first in 0..count {
-                sheets.push(series(count, &[(first, 7)], tame, &mut random));
+                sheets.push(series(size, count, &[(first, 7)], tame, &mut random));
                 for second in first + 1..count {
                     for causes in [[7, 7], [7, 8], [65_534, 65_534], [1, 257]] {
                         let gross = [(first, causes[0]), (second, causes[1])];
-                        sheets.push(series(count, &gross, tame, &mut random));
+                        sheets.push(series(size, count, &gross, tame, &mut random));
                     }
                     let third = random.below(count);
                     let gross = [(first, 7), (second, 8), (third, 7)];
-                    sheets.push(series(count, &gross, tame, &mut random));
+                    sheets.push(series(size, count, &gross, tame, &mut random));
                 }
             }
         }
@@ -40,21 +41,35 @@ enum Tame {
     High,
 }
 
-fn series(count: usize, gross: &[(usize, u16)], tame: Tame, random: &mut Random) -> Vec<u8> {
-    let pollutant = |number| Pollutant {
+/// Pollutant 1 alone, two of the first four, or the last two.
+fn declared(size: usize, random: &mut Random) -> Vec<u8> {
+    let last = Document01.pollutants(size) as u8;
+    random
+        .pick(&[&[1][..], &[2, 4], &[last - 1, last]])
+        .to_vec()
+}
+
+fn series(
+    size: usize,
+    count: usize,
+    gross: &[(usize, u16)],
+    tame: Tame,
+    random: &mut Random,
+) -> Vec<u8> {
+    let pollutant = |&number: &u8| Pollutant {
         number,
         limit: LIMIT,
         deviation: 0,
     };
-    let numbers: &[u8] = random.pick(&[&[1][..], &[2, 4][..]]);
-    let mut draft = Draft::new(4, numbers.iter().copied().map(pollutant).collect());
+    let numbers = declared(size, random);
+    let mut draft = Draft::new(size, 4, numbers.iter().map(pollutant).collect());
     for place in 0..count {
         let cause = gross
             .iter()
             .find(|(at, _)| *at == place)
             .map(|&(_, cause)| cause);
-        let mut measurements = [0; 4];
-        for number in numbers {
+        let mut measurements = [0; MOST_POLLUTANTS];
+        for number in &numbers {
             measurements[usize::from(*number) - 1] = match tame {
                 Tame::Low => random.between(700, 1000),
                 Tame::Mixed => [600, 1400][place % 2] + random.between(0, 100),
@@ -62,7 +77,7 @@ fn series(count: usize, gross: &[(usize, u16)], tame: Tame, random: &mut Random)
             };
         }
         if cause.is_some() {
-            measurements[usize::from(random.pick(numbers)) - 1] = GROSS + random.between(0, 20);
+            measurements[usize::from(random.pick(&numbers)) - 1] = GROSS + random.between(0, 20);
         }
         draft.test(measurements, cause.unwrap_or(0));
     }

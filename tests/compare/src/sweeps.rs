@@ -1,34 +1,13 @@
 //! What a corpus of chosen and random sheets leaves out: every logarithm and every cause, each
 //! through report, with the report that has to be written.
 
-use crate::draft::{Draft, Pollutant, LARGEST};
-use crate::paper::{Cell, Chosen, Line, Paper};
-use second::{Decision, Document, Document01, REPORT};
-use std::ops::ControlFlow;
+use crate::draft::{Draft, Measurements, Pollutant, LARGEST};
+use crate::paper::{Cell, Chosen, Line, Paper, Report};
+use second::{Decision, Document, Document01, LONGEST_REPORT, MOST_POLLUTANTS};
+use std::ops::RangeInclusive;
 
-/// Shows sheets until it is told to stop.
-pub type Visit<'a> = dyn FnMut(&Chosen) -> ControlFlow<()> + 'a;
-
-#[derive(Clone, Copy, Debug, PartialEq, Eq)]
-pub enum Sweep {
-    Logarithms,
-    Causes,
-}
-
-impl Sweep {
-    /// Everything, or one part of `step`.
-    pub fn visit(self, paper: &Paper, step: usize, visit: &mut Visit) -> ControlFlow<()> {
-        match self {
-            Sweep::Logarithms => visit_logarithms(paper, step, &mut |trial| {
-                trial.sheets.iter().try_for_each(&mut *visit)
-            }),
-            Sweep::Causes => visit_causes(step, visit),
-        }
-    }
-}
-
-/// Two sheets of plan 1 with four pollutants and three engines. Each pollutant stands on a line of
-/// row 3: all decide on the first sheet, and none on the second.
+/// Two sheets of plan 1 with every pollutant of the size and three engines. Each pollutant stands
+/// on a line of row 3: all decide on the first sheet, and none on the second.
 ///
 /// A unit of T is 693,147,181, and a unit of t is A x 1,048,576 or |B| x 1,048,576, which is 5 or 7
 /// times as much. So the deviation alone can't put every T on a line, and the third engine does it:
@@ -38,55 +17,95 @@ impl Sweep {
 /// the first if |T| gets smaller by it, and the second if |T| gets larger. Should a limit also be
 /// measured, its g counts three times in T, and no more than twice the other way.
 pub struct LogarithmTrial {
-    pub limits: [u32; 4],
+    pub limits: Vec<u32>,
     /// What the first two engines measure.
-    pub measurements: [[u32; 2]; 4],
+    pub measurements: Vec<[u32; 2]>,
     pub sheets: [Chosen; 2],
 }
 
-/// Every m that can be measured is a limit, and a measurement of the first two engines.
-pub fn visit_logarithms(
+/// Every m that can be measured is a limit, and a measurement of the first two engines; or one part
+/// of `step` of the trials.
+pub fn logarithm_trials(
     paper: &Paper,
+    size: usize,
     step: usize,
-    visit: &mut dyn FnMut(&LogarithmTrial) -> ControlFlow<()>,
-) -> ControlFlow<()> {
+) -> impl Iterator<Item = LogarithmTrial> {
+    trials(paper, size, limits(size).step_by(step))
+}
+
+/// Those of all trials that have m for a limit or for a measurement of the first two engines.
+pub fn logarithm_trials_with(
+    paper: &Paper,
+    size: usize,
+    m: u32,
+) -> impl Iterator<Item = LogarithmTrial> {
+    let has_m = move |limit| limit == m || first_two(limit).contains(&m);
+    let limits = limits(size).filter(move |limits| limits.clone().any(has_m));
+    trials(paper, size, limits)
+}
+
+fn trials(
+    paper: &Paper,
+    size: usize,
+    limits: impl Iterator<Item = RangeInclusive<u32>>,
+) -> impl Iterator<Item = LogarithmTrial> {
     let lines = RowThree::new(paper);
-    (1..=LARGEST).step_by(4 * step).try_for_each(|first| {
-        // The last four overlap those before them.
-        let first = first.min(LARGEST - 3);
-        let limits = [first, first + 1, first + 2, first + 3];
-        visit(&trial(limits.map(|limit| lines.pollutant(limit))))
+    limits.map(move |limits| {
+        let pollutants: Vec<OnLine> = limits.map(|limit| lines.pollutant(limit)).collect();
+        trial(size, &pollutants)
     })
 }
 
-fn trial(pollutants: [OnLine; 4]) -> LogarithmTrial {
-    let pollutants = pollutants.each_ref();
+/// As many limits as a sheet has pollutants, one after the other. The last overlap those before.
+fn limits(size: usize) -> impl Iterator<Item = RangeInclusive<u32>> {
+    let more = Document01.pollutants(size) as u32 - 1;
+    let first = (1..=LARGEST).step_by(more as usize + 1);
+    first.map(move |first| {
+        let first = first.min(LARGEST - more);
+        first..=first + more
+    })
+}
+
+fn trial(size: usize, pollutants: &[OnLine]) -> LogarithmTrial {
+    let decisions = pollutants.iter().map(|pollutant| pollutant.decision);
     LogarithmTrial {
-        limits: pollutants.map(|pollutant| pollutant.limit),
-        measurements: pollutants.map(|pollutant| pollutant.first_two),
+        limits: pollutants.iter().map(|pollutant| pollutant.limit).collect(),
+        measurements: pollutants
+            .iter()
+            .map(|pollutant| pollutant.first_two)
+            .collect(),
         sheets: [
             Chosen {
-                sheet: sheet(pollutants, |pollutant| pollutant.deciding),
-                report: decided_at_3(pollutants.map(|pollutant| pollutant.decision)),
+                sheet: sheet(size, pollutants, |pollutant| pollutant.deciding),
+                report: decided_at_3(decisions),
             },
             Chosen {
-                sheet: sheet(pollutants, |pollutant| pollutant.beyond),
+                sheet: sheet(size, pollutants, |pollutant| pollutant.beyond),
                 report: ANOTHER_AT_3,
             },
         ],
     }
 }
 
-fn sheet(pollutants: [&OnLine; 4], third: impl Fn(&OnLine) -> u32) -> Vec<u8> {
+fn sheet(size: usize, pollutants: &[OnLine], third: fn(&OnLine) -> u32) -> Vec<u8> {
     let declared = (1..).zip(pollutants).map(|(number, on_line)| Pollutant {
         number,
         limit: on_line.limit,
         deviation: on_line.deviation,
     });
-    let mut draft = Draft::new(1, declared.collect());
-    draft.test(pollutants.map(|pollutant| pollutant.first_two[0]), 0);
-    draft.test(pollutants.map(|pollutant| pollutant.first_two[1]), 0);
-    draft.test(pollutants.map(third), 0);
+    let mut draft = Draft::new(size, 1, declared.collect());
+    let measured: [fn(&OnLine) -> u32; 3] = [
+        |pollutant| pollutant.first_two[0],
+        |pollutant| pollutant.first_two[1],
+        third,
+    ];
+    for measured in measured {
+        let mut measurements = [0; MOST_POLLUTANTS];
+        for (measurement, pollutant) in measurements.iter_mut().zip(pollutants) {
+            *measurement = measured(pollutant);
+        }
+        draft.test(measurements, 0);
+    }
     draft.bytes()
 }
 
@@ -177,12 +196,12 @@ fn first_two(limit: u32) -> [u32; 2] {
     }
 }
 
-const ANOTHER_AT_3: [u8; REPORT] = report_at_3(0, 0);
-const EQUAL_CAUSE_AT_3: [u8; REPORT] = report_at_3(2, 2);
+const ANOTHER_AT_3: Report = report_at_3(0, 0);
+const EQUAL_CAUSE_AT_3: Report = report_at_3(2, 2);
 
 /// Every pollutant open.
-const fn report_at_3(verdict: u8, ground: u8) -> [u8; REPORT] {
-    let mut report = [0; REPORT];
+const fn report_at_3(verdict: u8, ground: u8) -> Report {
+    let mut report = [0; LONGEST_REPORT];
     report[0] = 16;
     report[1] = verdict;
     report[2] = ground;
@@ -192,49 +211,54 @@ const fn report_at_3(verdict: u8, ground: u8) -> [u8; REPORT] {
 
 /// "Any fail in a row: the series fails there, and every other pollutant deciding in that row
 /// keeps its decision. All passed: pass."
-fn decided_at_3(decisions: [Decision; 4]) -> [u8; REPORT] {
-    let verdict = if decisions.contains(&Decision::Fail) {
+fn decided_at_3(decisions: impl Iterator<Item = Decision> + Clone) -> Report {
+    let any_fails = decisions.clone().any(|decision| decision == Decision::Fail);
+    let verdict = if any_fails {
         Decision::Fail
     } else {
         Decision::Pass
     };
     let mut report = report_at_3(verdict as u8, 1);
-    for (place, decision) in decisions.into_iter().enumerate() {
+    for (place, decision) in decisions.enumerate() {
         report[4 + 2 * place] = decision as u8;
         report[5 + 2 * place] = 3;
     }
     report
 }
 
-/// Every cause twice among three vehicles, which fails them, and beside each cause that differs
-/// from it in one bit, which leaves row 3 open.
-fn visit_causes(step: usize, visit: &mut Visit) -> ControlFlow<()> {
-    for cause in (1..=LARGEST_CAUSE).step_by(step) {
-        visit(&vehicles([cause, cause], EQUAL_CAUSE_AT_3))?;
-        for bit in 0..16 {
-            let other = cause ^ 1 << bit;
-            if (1..=LARGEST_CAUSE).contains(&other) {
-                visit(&vehicles([cause, other], ANOTHER_AT_3))?;
-            }
-        }
-    }
-    ControlFlow::Continue(())
+/// Every cause, or one of `step`, twice among three vehicles, which fails them, and beside each
+/// cause that differs from it in one bit, which leaves row 3 open.
+pub fn cause_sheets(size: usize, step: usize) -> impl Iterator<Item = Chosen> {
+    let causes = (1..=LARGEST_CAUSE).step_by(step);
+    causes.flat_map(move |cause| {
+        let others = (0..16).map(move |bit| cause ^ 1 << bit);
+        let others = others.filter(|other| (1..=LARGEST_CAUSE).contains(other));
+        let open = others.map(move |other| vehicles(size, [cause, other], ANOTHER_AT_3));
+        let equal = std::iter::once_with(move || vehicles(size, [cause; 2], EQUAL_CAUSE_AT_3));
+        equal.chain(open)
+    })
 }
 
 const LARGEST_CAUSE: u16 = 65_534;
 
-/// Two gross emitters and a third vehicle, which has each place in turn.
-fn vehicles(causes: [u16; 2], report: [u8; REPORT]) -> Chosen {
+/// Two gross emitters by the last pollutant, and a third vehicle, which has each place in turn.
+fn vehicles(size: usize, causes: [u16; 2], report: Report) -> Chosen {
+    let number = Document01.pollutants(size) as u8;
     let pollutant = Pollutant {
-        number: 1,
+        number,
         limit: 1000,
         deviation: 0,
     };
-    let mut draft = Draft::new(4, vec![pollutant]);
+    let measured = |x| -> Measurements {
+        let mut measurements = [0; MOST_POLLUTANTS];
+        measurements[usize::from(number) - 1] = x;
+        measurements
+    };
+    let mut draft = Draft::new(size, 4, vec![pollutant]);
     for cause in causes {
-        draft.test([1501, 0, 0, 0], cause);
+        draft.test(measured(1501), cause);
     }
-    draft.test([900, 0, 0, 0], 0);
+    draft.test(measured(900), 0);
     draft.engines.swap(usize::from(causes[0]) % 3, 2);
     let sheet = draft.bytes();
     Chosen { sheet, report }

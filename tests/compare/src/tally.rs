@@ -1,6 +1,7 @@
 //! Counts what was compared and shows what differs.
 
-use std::fmt::Debug;
+use std::collections::BTreeMap;
+use std::fmt::{Debug, Display};
 use std::process::ExitCode;
 
 /// How many differences are printed in full.
@@ -63,6 +64,31 @@ impl Tally {
             ExitCode::SUCCESS
         } else {
             ExitCode::FAILURE
+        }
+    }
+}
+
+/// How often each kind of answer was compared.
+pub struct Kinds<K>(BTreeMap<K, u64>);
+
+impl<K> Default for Kinds<K> {
+    fn default() -> Self {
+        Kinds(BTreeMap::new())
+    }
+}
+
+impl<K: Ord + Display> Kinds<K> {
+    pub fn count(&mut self, kind: K) {
+        *self.0.entry(kind).or_default() += 1;
+    }
+
+    /// Prints those that have to be seen in records of this size; what was never seen is a gap.
+    pub fn print(&self, size: usize, demanded: Vec<K>, tally: &mut Tally) {
+        for kind in demanded {
+            match self.0.get(&kind) {
+                Some(count) => println!("  {kind}: {count} answers"),
+                None => tally.gap(&format!("{kind}, in records of {size} bytes")),
+            }
         }
     }
 }

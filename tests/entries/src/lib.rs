@@ -9,7 +9,29 @@ extern "C" {
         record: *const u8,
         record_length: usize,
     ) -> u32;
+    pub fn conformity_append_sized(
+        size: usize,
+        buffer: *mut u8,
+        buffer_length: usize,
+        used: usize,
+        record: *const u8,
+        record_length: usize,
+    ) -> u32;
     pub fn conformity_report(
+        sheet: *const u8,
+        sheet_length: usize,
+        output: *mut u8,
+        output_length: usize,
+    ) -> u32;
+    pub fn conformity_report_sized(
+        size: usize,
+        sheet: *const u8,
+        sheet_length: usize,
+        output: *mut u8,
+        output_length: usize,
+    ) -> u32;
+    pub fn conformity_convert(
+        size: usize,
         sheet: *const u8,
         sheet_length: usize,
         output: *mut u8,
@@ -23,7 +45,12 @@ extern "C" {
         divisor: *mut u32,
     ) -> u32;
     pub fn probe_logarithm(m: u32) -> u32;
-    pub fn probe_evidence(sheet: *const u8, sheet_length: usize, code: *mut u32) -> usize;
+    pub fn probe_evidence(
+        size: usize,
+        sheet: *const u8,
+        sheet_length: usize,
+        code: *mut u32,
+    ) -> usize;
     pub fn probe_lines(
         sheet: *const u8,
         sheet_length: usize,
@@ -31,9 +58,10 @@ extern "C" {
         output_length: usize,
     ) -> usize;
     pub fn probe_step(
+        size: usize,
         sheet: *const u8,
         sheet_length: usize,
         k: usize,
-        numbers: *mut [u32; 6],
+        numbers: *mut [u32; 8],
     ) -> usize;
 }

@@ -3,11 +3,17 @@
 
 use crate::document::Document;
 
-/// "Records of 20 bytes, no header; at most 37."
-pub const RECORD: usize = 20;
-pub const LONGEST_SHEET: usize = 37 * RECORD;
+/// The two sizes of a record, in bytes: document 01's "records of 20 bytes", and F-10's "28-byte
+/// record".
+pub const FOUR_POLLUTANTS: usize = 20;
+pub const SIX_POLLUTANTS: usize = 28;
+pub const SIZES: [usize; 2] = [FOUR_POLLUTANTS, SIX_POLLUTANTS];
 
-pub type Record = [u8; RECORD];
+/// The pollutants that a record of either size has a place for.
+pub const MOST_POLLUTANTS: usize = 6;
+
+/// As many bytes as the size says.
+pub type Record = [u8];
 
 pub(crate) const POLLUTANT: u8 = 1;
 pub(crate) const ENGINE: u8 = 2;
@@ -34,35 +40,42 @@ impl Refusal {
 
 /// A checked sheet, or the records of one that are checked so far.
 pub struct Series<'a> {
+    /// Of its records.
+    pub size: usize,
     pub plan: u8,
     /// By pollutant number less one; a limit of 0 marks an undeclared pollutant.
-    pub limits: [u32; 4],
-    pub deviations: [u32; 4],
+    pub limits: [u32; MOST_POLLUTANTS],
+    pub deviations: [u32; MOST_POLLUTANTS],
     pub highest_pollutant: u8,
     /// How many pollutant records open the sheet, and how many engines follow them.
     pub declared: usize,
     pub tested: usize,
     pub stopped: bool,
-    records: &'a [Record],
+    pub(crate) sheet: &'a [u8],
 }
 
 impl<'a> Series<'a> {
-    fn of_no_record(records: &'a [Record]) -> Self {
+    fn of_no_record(size: usize, sheet: &'a [u8]) -> Self {
         Series {
+            size,
             plan: 0,
-            limits: [0; 4],
-            deviations: [0; 4],
+            limits: [0; MOST_POLLUTANTS],
+            deviations: [0; MOST_POLLUTANTS],
             highest_pollutant: 0,
             declared: 0,
             tested: 0,
             stopped: false,
-            records,
+            sheet,
         }
     }
 
+    pub fn records(&self) -> impl Iterator<Item = &'a Record> {
+        self.sheet.chunks_exact(self.size)
+    }
+
     /// The engine records, which follow the pollutants without a gap.
-    pub fn engines(&self) -> &'a [Record] {
-        &self.records[self.declared..self.declared + self.tested]
+    pub fn engines(&self) -> impl Iterator<Item = &'a Record> {
+        self.records().skip(self.declared).take(self.tested)
     }
 
     fn take<D: Document + ?Sized>(&mut self, document: &D, record: &Record) {
@@ -81,25 +94,25 @@ impl<'a> Series<'a> {
     }
 }
 
+/// A number of four bytes; 0 behind the record's end.
 pub(crate) fn number_at(record: &Record, place: usize) -> u32 {
-    u32::from_le_bytes([
-        record[place],
-        record[place + 1],
-        record[place + 2],
-        record[place + 3],
-    ])
+    match record.get(place..place + 4) {
+        Some(&[a, b, c, d]) => u32::from_le_bytes([a, b, c, d]),
+        _ => 0,
+    }
 }
 
+/// The check of a sheet, "by its size" (F-10).
 pub fn check<'a, D: Document + ?Sized>(
     document: &D,
+    size: usize,
     sheet: &'a [u8],
 ) -> Result<Series<'a>, Refusal> {
-    if !document.length_fits(sheet.len()) {
-        return Err(Refusal::of_no_record(1));
+    if let Some(number) = document.sheet_fault(size, sheet.len()) {
+        return Err(document.refusal_of_no_record(number));
     }
-    let (records, _) = sheet.as_chunks::<RECORD>();
-    let mut series = Series::of_no_record(records);
-    for (index, record) in records.iter().enumerate() {
+    let mut series = Series::of_no_record(size, sheet);
+    for (index, record) in series.records().enumerate() {
         if let Some(number) = document.fault(record, &series) {
             let record = index as u8;
             return Err(Refusal { number, record });

@@ -1,13 +1,17 @@
 //! Document 01, "Sequential conformity verdicts", and behind it the requests of document 02 that
 //! landed, sentence by sentence: one small method for each sentence or number that can be misread,
-//! in the documents' order. `check`, `judge`, `operations`, `reader` and `declared` put the
-//! sentences together and hold for any document.
+//! in the documents' order. `check`, `judge`, `operations`, `reader`, `convert` and `declared` put
+//! the sentences together and hold for any document. A `size` is that of a record, in bytes:
+//! "Callers name the size" (F-10).
 
-use crate::check::{number_at, Record, Refusal, Series, ENGINE, LONGEST_SHEET, POLLUTANT, RECORD};
+use crate::check::{
+    number_at, Record, Refusal, Series, ENGINE, FOUR_POLLUTANTS, POLLUTANT, SIX_POLLUTANTS, SIZES,
+};
 use crate::declared::{total, Approval};
 use crate::judge::{Decision, Ending, GrossEmitters, Ground, Judgement, Row, Verdict};
-use crate::operations::REPORT;
+use crate::operations::LONGEST_REPORT;
 use crate::tables::{self, Column};
+use std::borrow::Cow;
 
 /// Document 01 as it stands, and the requests of document 02 that landed.
 pub struct Document01;
@@ -81,6 +85,29 @@ pub trait Document {
 
     // ---- The sheet
 
+    /// "Records of 20 bytes, no header; at most 37"; and of F-10: "A sheet of the new size holds
+    /// two records more than the old maximum".
+    fn most_records(&self, size: usize) -> usize {
+        match size {
+            SIX_POLLUTANTS => 37 + 2,
+            _ => 37,
+        }
+    }
+
+    /// "Over 740 bytes" is more than 37 records of 20.
+    fn longest_sheet(&self, size: usize) -> usize {
+        self.most_records(size) * size
+    }
+
+    /// "Pollutant number 1 to 4"; and of F-10: "A 28-byte record has six measurements; pollutant
+    /// numbers run to 6".
+    fn pollutants(&self, size: usize) -> usize {
+        match size {
+            SIX_POLLUTANTS => 6,
+            _ => 4,
+        }
+    }
+
     /// Kind 1: "bytes 4-7 limit L".
     fn limit(&self, record: &Record) -> u32 {
         number_at(record, 4)
@@ -91,7 +118,8 @@ pub trait Document {
         number_at(record, 8)
     }
 
-    /// Kind 1: "Byte 3 and bytes 12-19 are zero."
+    /// Kind 1: "Byte 3 and bytes 12-19 are zero"; and of F-10: "other fields keep their bytes with
+    /// the new ones zero", to byte 27.
     fn pollutant_rest_is_zero(&self, record: &Record) -> bool {
         record[3] == 0 && all_zero(&record[12..])
     }
@@ -106,12 +134,13 @@ pub trait Document {
         u16::from_le_bytes([record[2], record[3]])
     }
 
-    /// Kind 2: "bytes 4-19 four u32 measurements, pollutant 1 first". Pollutants count from 0 here.
+    /// Kind 2: "bytes 4-19 four u32 measurements, pollutant 1 first"; and of F-10: "the new ones
+    /// [..] measurements 5 and 6". Pollutants count from 0 here.
     fn measurement(&self, record: &Record, pollutant: usize) -> u32 {
         number_at(record, 4 + 4 * pollutant)
     }
 
-    /// Kind 3: "bytes 1-19 zero".
+    /// Kind 3: "bytes 1-19 zero"; and of F-10: "with the new ones zero", to byte 27.
     fn stop_rest_is_zero(&self, record: &Record) -> bool {
         all_zero(&record[1..])
     }
@@ -161,9 +190,17 @@ pub trait Document {
     }
 
     /// "A sheet under reading is the lent bytes and the number of the next record": the record of
-    /// that number, if it is there whole.
-    fn record_at(&self, sheet: &[u8], number: usize) -> Option<Record> {
-        sheet.as_chunks().0.get(number).copied()
+    /// that number, if it is there whole. In another size than 20 or 28 there is none.
+    fn record_at<'a>(
+        &self,
+        size: usize,
+        sheet: &'a [u8],
+        number: usize,
+    ) -> Option<Cow<'a, Record>> {
+        if !self.size_fits(size) {
+            return None;
+        }
+        sheet.chunks_exact(size).nth(number).map(Cow::Borrowed)
     }
 
     // ---- Plans
@@ -325,6 +362,12 @@ pub trait Document {
 
     // ---- The series
 
+    /// "All passed: pass", of the declared pollutants, which have a limit. Pollutants count from 0
+    /// here.
+    fn is_judged(&self, _pollutant: usize, limit: u32) -> bool {
+        limit != 0
+    }
+
     /// "A pollutant that has passed is not looked at again."
     fn is_looked_at(&self, decision: Decision) -> bool {
         decision != Decision::Pass
@@ -360,39 +403,70 @@ pub trait Document {
     // ---- Other operations
 
     /// "Evidence hands back the part of the sheet from its start through the deciding engine's
-    /// record; the whole sheet where undecided, stopped or referred."
-    fn evidence_length(&self, ground: Ground, through_engine: usize, whole: usize) -> usize {
+    /// record; the whole sheet where undecided, stopped or referred", in records.
+    fn evidence_records(&self, ground: Ground, through_engine: usize, whole: usize) -> usize {
         match ground {
             Ground::Row | Ground::EqualCause => through_engine,
             Ground::None | Ground::Stopped | Ground::Referred => whole,
         }
     }
 
+    /// "The part of the sheet", in bytes.
+    fn evidence_length(&self, size: usize, records: usize) -> usize {
+        records * size
+    }
+
     /// "Report writes 20 bytes, one for each value: 16 as the mark of a report, verdict, ground,
-    /// engine, four pairs of decision and engine, pollutant 1 first, eight zeros."
-    fn report_bytes(&self, judgement: &Judgement) -> [u8; REPORT] {
-        let mut bytes = [0; REPORT];
+    /// engine, four pairs of decision and engine, pollutant 1 first, eight zeros"; and of F-10:
+    /// "its report is 28 bytes with six pairs and twelve zeros".
+    fn report_bytes(&self, size: usize, judgement: &Judgement) -> [u8; LONGEST_REPORT] {
+        let mut bytes = [0; LONGEST_REPORT];
         bytes[0] = 16;
         bytes[1] = judgement.verdict as u8;
         bytes[2] = judgement.ground as u8;
         bytes[3] = judgement.engine;
-        for (pollutant, (decision, engine)) in judgement.decisions.into_iter().enumerate() {
+        let pairs = judgement.decisions.into_iter().take(self.pollutants(size));
+        for (pollutant, (decision, engine)) in pairs.enumerate() {
             bytes[4 + 2 * pollutant] = decision as u8;
             bytes[5 + 2 * pollutant] = engine;
         }
         bytes
     }
 
-    /// "Report writes 20 bytes", all of them.
-    fn bytes_written(&self) -> usize {
-        REPORT
+    /// "Report writes 20 bytes", and F-10's "report is 28 bytes", all of them: as many as a record
+    /// has.
+    fn bytes_written(&self, size: usize) -> usize {
+        size
     }
 
     // ---- What each operation turns down
 
-    /// "1, no bytes, a length not a multiple of 20, or over 740 bytes."
-    fn length_fits(&self, length: usize) -> bool {
-        length != 0 && length.is_multiple_of(RECORD) && length <= LONGEST_SHEET
+    /// F-10: "30, size not 20 or 28".
+    fn size_fits(&self, size: usize) -> bool {
+        SIZES.contains(&size)
+    }
+
+    /// "A refusal that names no record, here or later, returns record 0"; and of F-10: "30 to 32
+    /// return record 0".
+    fn refusal_of_no_record(&self, number: u8) -> Refusal {
+        Refusal::of_no_record(number)
+    }
+
+    /// "Judge: 1, [..]. Then the first faulty record"; and of F-10: "30, [..] before every other".
+    fn sheet_fault(&self, size: usize, length: usize) -> Option<u8> {
+        if !self.size_fits(size) {
+            Some(30)
+        } else if !self.length_fits(size, length) {
+            Some(1)
+        } else {
+            None
+        }
+    }
+
+    /// "1, no bytes, a length not a multiple of 20, or over 740 bytes"; and of F-10: "the checks of
+    /// a sheet, by its size".
+    fn length_fits(&self, size: usize, length: usize) -> bool {
+        length != 0 && length.is_multiple_of(size) && length <= self.longest_sheet(size)
     }
 
     /// "The first faulty record, and in it the lowest of": 2, 3, and what its kind can have.
@@ -425,7 +499,7 @@ pub trait Document {
     /// that must be zero".
     fn pollutant_fault(&self, record: &Record, so_far: &Series) -> Option<u8> {
         let (number, plan) = (record[1], record[2]);
-        if !self.pollutant_fits(number, so_far.highest_pollutant) {
+        if !self.pollutant_fits(number, so_far) {
             Some(4)
         } else if !self.plan_fits(plan, so_far) {
             Some(5)
@@ -440,9 +514,11 @@ pub trait Document {
         }
     }
 
-    /// "4, pollutant number not 1 to 4 or not above the one before".
-    fn pollutant_fits(&self, number: u8, before: u8) -> bool {
-        (1..=4).contains(&number) && number > before
+    /// "4, pollutant number not 1 to 4 or not above the one before"; and of F-10: "pollutant numbers
+    /// run to 6".
+    fn pollutant_fits(&self, number: u8, so_far: &Series) -> bool {
+        let numbers = 1..=self.pollutants(so_far.size);
+        numbers.contains(&number.into()) && number > so_far.highest_pollutant
     }
 
     /// "5, plan not 1 to 4 or unlike the first"; and of F-6: "Refusal 5 admits plan 5."
@@ -468,7 +544,8 @@ pub trait Document {
 
     /// "8, measurement, also one not zero of an undeclared pollutant".
     fn measurements_fit(&self, record: &Record, so_far: &Series) -> bool {
-        (0..4).all(|pollutant| {
+        let mut pollutants = 0..self.pollutants(so_far.size);
+        pollutants.all(|pollutant| {
             let x = self.measurement(record, pollutant);
             match so_far.limits[pollutant] {
                 0 => self.undeclared_fits(x),
@@ -479,17 +556,20 @@ pub trait Document {
 
     /// "9, cause".
     fn cause_fits(&self, record: &Record, so_far: &Series) -> bool {
-        let is_gross = |pollutant| {
-            self.is_gross(
-                self.measurement(record, pollutant),
-                so_far.limits[pollutant],
-            )
-        };
-        if self.has_causes(so_far.plan) && (0..4).any(is_gross) {
+        if self.has_causes(so_far.plan) && self.is_gross_emitter(record, so_far) {
             self.gross_cause_fits(self.cause(record))
         } else {
             self.other_cause_fits(self.cause(record))
         }
+    }
+
+    /// "A vehicle with 2x > 3L for some pollutant", of as many as the size has.
+    fn is_gross_emitter(&self, record: &Record, so_far: &Series) -> bool {
+        let mut pollutants = 0..self.pollutants(so_far.size);
+        pollutants.any(|pollutant| {
+            let x = self.measurement(record, pollutant);
+            self.is_gross(x, so_far.limits[pollutant])
+        })
     }
 
     /// "10, more engines than the last row".
@@ -519,11 +599,14 @@ pub trait Document {
     }
 
     /// "Append, in this order: 14, record not 20 bytes; 13, fewer than 20 bytes after u, or u
-    /// beyond the buffer". Beyond the buffer there is no rest.
-    fn append_fault(&self, record: usize, rest: Option<usize>) -> Option<u8> {
-        if record != RECORD {
+    /// beyond the buffer"; and of F-10: "13 to 15 count 28 bytes for the new size; 30, [..] before
+    /// every other". Beyond the buffer there is no rest.
+    fn append_fault(&self, size: usize, record: usize, rest: Option<usize>) -> Option<u8> {
+        if !self.size_fits(size) {
+            Some(30)
+        } else if record != size {
             Some(14)
-        } else if rest.is_none_or(|rest| rest < RECORD) {
+        } else if rest.is_none_or(|rest| rest < size) {
             Some(13)
         } else {
             None
@@ -543,16 +626,34 @@ pub trait Document {
     /// "Report: 15, output under 20 bytes, record 0; then as judge."
     fn report_answer(
         &self,
+        size: usize,
         output: usize,
         judged: Result<Judgement, Refusal>,
     ) -> Result<Judgement, Refusal> {
-        if output < REPORT {
-            return Err(Refusal::of_no_record(15));
+        match self.report_fault(size, output) {
+            Some(number) => Err(self.refusal_of_no_record(number)),
+            None => judged,
         }
-        judged
+    }
+
+    /// "15, output under 20 bytes"; and of F-10: "13 to 15 count 28 bytes for the new size; 30,
+    /// [..] before every other".
+    fn report_fault(&self, size: usize, output: usize) -> Option<u8> {
+        if !self.size_fits(size) {
+            Some(30)
+        } else if output < size {
+            Some(15)
+        } else {
+            None
+        }
     }
 
     // ---- The program `verdict`
+
+    /// F-10: "`verdict` reads 20-byte sheets."
+    fn size_of_verdict(&self) -> usize {
+        FOUR_POLLUTANTS
+    }
 
     /// "Line 1: verdict word (another, pass, fail, referred), engine, ground".
     fn first_line(&self, word: &str, engine: u8, ground: Ground) -> String {
@@ -572,6 +673,76 @@ pub trait Document {
     /// "A refusal prints `refused`, number, record."
     fn refused_line(&self, Refusal { number, record }: Refusal) -> String {
         format!("refused {number} {record}\n")
+    }
+
+    // ---- The converter (document 02, F-10)
+
+    /// "A converter carries accepted sheets both ways": from either size to the other.
+    fn other_size(&self, size: usize) -> usize {
+        match size {
+            SIX_POLLUTANTS => FOUR_POLLUTANTS,
+            _ => SIX_POLLUTANTS,
+        }
+    }
+
+    /// All records of a sheet, in bytes of the other size.
+    fn carried_length(&self, size: usize, length: usize) -> usize {
+        length / size * self.other_size(size)
+    }
+
+    /// "Record by record".
+    fn carry(&self, size: usize, sheet: &[u8], carried: &mut [u8]) {
+        let places = carried.chunks_exact_mut(self.other_size(size));
+        for (record, place) in sheet.chunks_exact(size).zip(places) {
+            self.carry_record(record, place);
+        }
+    }
+
+    /// "Other fields keep their bytes", "added bytes zero".
+    fn carry_record(&self, record: &Record, place: &mut Record) {
+        let kept = record.len().min(place.len());
+        place[..kept].copy_from_slice(&record[..kept]);
+        place[kept..].fill(0);
+    }
+
+    /// "Output bytes past the sheet untouched."
+    fn pass_over(&self, _past: &mut [u8]) {}
+
+    /// A converter carries "accepted sheets": what is turned away writes nothing.
+    fn is_carried(&self, refusal: Option<Refusal>) -> bool {
+        refusal.is_none()
+    }
+
+    /// "Turned away: the checks of a sheet, by its size; [..] 31, [..] after the sheet's checks;
+    /// 32, converter output too short, after 31".
+    fn convert_refusal(
+        &self,
+        size: usize,
+        sheet: &[u8],
+        output: usize,
+        checked: Result<Series, Refusal>,
+    ) -> Option<Refusal> {
+        let series = match checked {
+            Ok(series) => series,
+            Err(refusal) => return Some(refusal),
+        };
+        if self.is_too_narrow(self.other_size(size), &series) {
+            Some(self.refusal_of_no_record(31))
+        } else if self.is_too_short(output, self.carried_length(size, sheet.len())) {
+            Some(self.refusal_of_no_record(32))
+        } else {
+            None
+        }
+    }
+
+    /// "31, narrowing a sheet that declares pollutant 5 or 6".
+    fn is_too_narrow(&self, other_size: usize, series: &Series) -> bool {
+        usize::from(series.highest_pollutant) > self.pollutants(other_size)
+    }
+
+    /// "32, converter output too short".
+    fn is_too_short(&self, output: usize, carried: usize) -> bool {
+        output < carried
     }
 
     // ---- Declared carbon dioxide (document 02, F-4)

@@ -1,7 +1,7 @@
 //! "Plans" and "The series": walks the rows of a checked sheet and answers verdict, engine,
 //! ground and the decision on each pollutant.
 
-use crate::check::{check, Record, Refusal, Series};
+use crate::check::{check, Record, Refusal, Series, MOST_POLLUTANTS};
 use crate::document::Document;
 
 #[derive(Clone, Copy, Debug, PartialEq, Eq)]
@@ -37,8 +37,9 @@ pub struct Judgement {
     /// "For another, the engines so far".
     pub engine: u8,
     pub ground: Ground,
-    /// Decision and engine of each pollutant, "0 where the decision is 0".
-    pub decisions: [(Decision, u8); 4],
+    /// Decision and engine of each pollutant, "0 where the decision is 0", as they are of one that
+    /// the size has no place for.
+    pub decisions: [(Decision, u8); MOST_POLLUTANTS],
 }
 
 /// How a row, a stop or the last engine ends the series.
@@ -70,7 +71,7 @@ struct Standing {
     c: i64,
 }
 
-type Standings = [Option<Standing>; 4];
+type Standings = [Option<Standing>; MOST_POLLUTANTS];
 
 /// The gross emitters among the vehicles so far, under plan 4.
 pub struct GrossEmitters {
@@ -80,8 +81,12 @@ pub struct GrossEmitters {
     pub equal_cause: bool,
 }
 
-pub fn judge<D: Document + ?Sized>(document: &D, sheet: &[u8]) -> Result<Judgement, Refusal> {
-    let series = check(document, sheet)?;
+pub fn judge<D: Document + ?Sized>(
+    document: &D,
+    size: usize,
+    sheet: &[u8],
+) -> Result<Judgement, Refusal> {
+    let series = check(document, size, sheet)?;
     Ok(walk(document, &series))
 }
 
@@ -89,8 +94,7 @@ pub fn judge<D: Document + ?Sized>(document: &D, sheet: &[u8]) -> Result<Judgeme
 pub(crate) fn walk<D: Document + ?Sized>(document: &D, series: &Series) -> Judgement {
     let mut standings = open_standings(document, series);
     let mut gross = GrossEmitters::none();
-    for (index, engine) in series.engines().iter().enumerate() {
-        let n = index + 1;
+    for (n, engine) in (1..).zip(series.engines()) {
         for (pollutant, standing) in standings.iter_mut().enumerate() {
             if let Some(standing) = standing {
                 standing.add(
@@ -119,7 +123,7 @@ fn judgement<D: Document + ?Sized>(
     n: usize,
     standings: &Standings,
 ) -> Judgement {
-    let mut decisions = [(Decision::Open, 0); 4];
+    let mut decisions = [(Decision::Open, 0); MOST_POLLUTANTS];
     for (decision, standing) in decisions.iter_mut().zip(standings) {
         if let Some(standing) = standing {
             *decision = match standing.decision {
@@ -183,7 +187,7 @@ fn statistics<D: Document + ?Sized>(
 fn open_standings<D: Document + ?Sized>(document: &D, series: &Series) -> Standings {
     std::array::from_fn(|pollutant| {
         let limit = series.limits[pollutant];
-        (limit != 0).then(|| Standing {
+        document.is_judged(pollutant, limit).then(|| Standing {
             limit,
             limit_logarithm: match series.plan {
                 3 => 0,

@@ -11,6 +11,7 @@
 #![forbid(unsafe_code)]
 
 mod check;
+mod convert;
 mod declared;
 mod document;
 mod judge;
@@ -19,10 +20,12 @@ mod reader;
 mod tables;
 pub mod variants;
 
-pub use check::{check, Record, Refusal, Series, LONGEST_SHEET, RECORD};
+pub use check::{check, Record, Refusal, Series};
+pub use check::{FOUR_POLLUTANTS, MOST_POLLUTANTS, SIX_POLLUTANTS, SIZES};
+pub use convert::convert;
 pub use declared::{approve, declared, Approval};
 pub use document::{Document, Document01, PLANS, UNKNOWN_DEVIATION};
 pub use judge::{judge, Decision, Ending, GrossEmitters, Ground, Judgement, Row, Verdict};
-pub use operations::{append, evidence, lines, report, REPORT};
+pub use operations::{append, evidence, lines, report, LONGEST_REPORT};
 pub use reader::{Reader, Step};
 pub use tables::Column;

@@ -1,74 +1,83 @@
 //! "Other operations": evidence, append and report, and the lines the program `verdict` prints.
 
-use crate::check::{check, Refusal, Series, RECORD};
+use crate::check::{check, Refusal, Series, SIX_POLLUTANTS};
 use crate::document::Document;
 use crate::judge::{judge, walk, Decision, Verdict};
 
-/// "Report writes 20 bytes".
-pub const REPORT: usize = 20;
+/// "Report writes 20 bytes", and F-10's "report is 28 bytes".
+pub const LONGEST_REPORT: usize = 28;
 
 /// "Evidence hands back the part of the sheet from its start".
 pub fn evidence<'a, D: Document + ?Sized>(
     document: &D,
+    size: usize,
     sheet: &'a [u8],
 ) -> Result<&'a [u8], Refusal> {
-    let checked = check(document, sheet);
+    let checked = check(document, size, sheet);
     let series = checked.map_err(|refusal| document.evidence_refusal(refusal))?;
     let judgement = walk(document, &series);
-    let through_engine = (series.declared + usize::from(judgement.engine)) * RECORD;
-    let length = document.evidence_length(judgement.ground, through_engine, sheet.len());
-    Ok(&sheet[..length])
+    let through_engine = series.declared + usize::from(judgement.engine);
+    let whole = sheet.len() / size;
+    let records = document.evidence_records(judgement.ground, through_engine, whole);
+    Ok(&sheet[..document.evidence_length(size, records)])
 }
 
 /// "Append adds a record to the sheet in the first u bytes of a lent buffer", here `used`.
 pub fn append<D: Document + ?Sized>(
     document: &D,
+    size: usize,
     buffer: &mut [u8],
     used: usize,
     record: &[u8],
 ) -> Result<(), Refusal> {
     let rest = buffer.len().checked_sub(used);
-    if let Some(number) = document.append_fault(record.len(), rest) {
-        return Err(Refusal::of_no_record(number));
+    if let Some(number) = document.append_fault(size, record.len(), rest) {
+        return Err(document.refusal_of_no_record(number));
     }
     if document.checks_sheet_there(used) {
-        check(document, &buffer[..used])?;
+        check(document, size, &buffer[..used])?;
     }
-    append_to_checked(document, &mut buffer[..used + RECORD], record)
+    let end = buffer.len().min(used + record.len());
+    append_to_checked(document, size, &mut buffer[..end], used, record)
 }
 
 /// Writes the record at the joined sheet's end, and takes it back if the joined sheet is refused.
+/// By 13 and 14 there is room for the record; a reading that misses them has it cut short.
 fn append_to_checked<D: Document + ?Sized>(
     document: &D,
+    size: usize,
     joined: &mut [u8],
+    used: usize,
     record: &[u8],
 ) -> Result<(), Refusal> {
-    let used = joined.len() - RECORD;
-    let mut before = [0; RECORD];
-    before.copy_from_slice(&joined[used..]);
-    joined[used..].copy_from_slice(record);
-    let checked = check(document, joined).map(|_| ());
+    let added = joined.len() - used;
+    let mut before = [0; SIX_POLLUTANTS];
+    before[..added].copy_from_slice(&joined[used..]);
+    joined[used..].copy_from_slice(&record[..added]);
+    let checked = check(document, size, joined).map(|_| ());
     if !document.stays_written(checked.is_err()) {
-        joined[used..].copy_from_slice(&before);
+        joined[used..].copy_from_slice(&before[..added]);
     }
     checked
 }
 
-/// "Report writes 20 bytes". "Bytes past 20 stay."
+/// "Report writes 20 bytes", or 28. "Bytes past" them "stay".
 pub fn report<D: Document + ?Sized>(
     document: &D,
+    size: usize,
     sheet: &[u8],
     output: &mut [u8],
 ) -> Result<(), Refusal> {
-    let judgement = document.report_answer(output.len(), judge(document, sheet))?;
-    let written = document.bytes_written();
-    output[..written].copy_from_slice(&document.report_bytes(&judgement)[..written]);
+    let judged = judge(document, size, sheet);
+    let judgement = document.report_answer(size, output.len(), judged)?;
+    let written = document.bytes_written(size).min(output.len());
+    output[..written].copy_from_slice(&document.report_bytes(size, &judgement)[..written]);
     Ok(())
 }
 
 /// The lines of a sheet, or that of its refusal.
 pub fn lines<D: Document + ?Sized>(document: &D, sheet: &[u8]) -> String {
-    match check(document, sheet) {
+    match check(document, document.size_of_verdict(), sheet) {
         Ok(series) => judgement_lines(document, &series),
         Err(refusal) => document.refused_line(refusal),
     }

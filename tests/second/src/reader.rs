@@ -1,11 +1,13 @@
 //! "A sheet under reading is the lent bytes and the number of the next record."
 
-use crate::check::{Record, ENGINE, POLLUTANT, STOP};
+use crate::check::{Record, ENGINE, MOST_POLLUTANTS, POLLUTANT, STOP};
 use crate::document::Document;
+use std::borrow::Cow;
 
 /// Any bytes under reading, from record 0 on.
 pub struct Reader<'a, D: Document + ?Sized> {
     document: &'a D,
+    size: usize,
     sheet: &'a [u8],
     next: usize,
 }
@@ -21,7 +23,8 @@ pub enum Step {
     },
     Engine {
         cause: u16,
-        measurements: [u32; 4],
+        /// 0 of a pollutant that the size has no place for.
+        measurements: [u32; MOST_POLLUTANTS],
     },
     Stop,
     Other {
@@ -31,9 +34,10 @@ pub enum Step {
 }
 
 impl<'a, D: Document + ?Sized> Reader<'a, D> {
-    pub fn new(document: &'a D, sheet: &'a [u8]) -> Self {
+    pub fn new(document: &'a D, size: usize, sheet: &'a [u8]) -> Self {
         Reader {
             document,
+            size,
             sheet,
             next: 0,
         }
@@ -60,8 +64,8 @@ impl<'a, D: Document + ?Sized> Reader<'a, D> {
             .count()
     }
 
-    fn record(&self, number: usize) -> Option<Record> {
-        self.document.record_at(self.sheet, number)
+    fn record(&self, number: usize) -> Option<Cow<'a, Record>> {
+        self.document.record_at(self.size, self.sheet, number)
     }
 
     fn step_of(&self, record: &Record) -> Step {
@@ -74,7 +78,7 @@ impl<'a, D: Document + ?Sized> Reader<'a, D> {
             },
             ENGINE => Step::Engine {
                 cause: self.document.cause(record),
-                measurements: [0, 1, 2, 3].map(|p| self.document.measurement(record, p)),
+                measurements: std::array::from_fn(|p| self.document.measurement(record, p)),
             },
             STOP => Step::Stop,
             kind => Step::Other { kind },

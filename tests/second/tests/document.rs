@@ -1,47 +1,53 @@
 //! Document 01's own cases: "Series that stand on a line", and its printed example; and of
-//! document 02 those of F-6, the corrected sheet, and of F-9, the finer logarithm.
+//! document 02 those of F-6, the corrected sheet, and of F-9, the finer logarithm. Each series is
+//! judged in records of both sizes; F-10: "All answers for pollutants 1 to 4 stay equal".
 
+mod records;
+
+use records::{engine, pollutant, stop};
 use second::variants::SixteenSteps;
 use second::{append, evidence, judge, lines};
-use second::{Column, Decision, Document, Document01, Ground, Refusal, Verdict};
+use second::{Column, Decision, Document, Document01, Ground, Judgement, Refusal, Verdict};
+use second::{FOUR_POLLUTANTS, SIZES};
 
-fn pollutant(number: u8, plan: u8, limit: u32, deviation: u32) -> [u8; 20] {
-    let mut record = [0; 20];
-    record[..3].copy_from_slice(&[1, number, plan]);
-    record[4..8].copy_from_slice(&limit.to_le_bytes());
-    record[8..12].copy_from_slice(&deviation.to_le_bytes());
-    record
-}
-
-fn engine(cause: u16, number: u8, measurement: u32) -> [u8; 20] {
-    let mut record = [0; 20];
-    record[0] = 2;
-    record[2..4].copy_from_slice(&cause.to_le_bytes());
-    let place = 4 * usize::from(number);
-    record[place..place + 4].copy_from_slice(&measurement.to_le_bytes());
-    record
-}
+/// One sheet in records of each size.
+type Sheets = [Vec<u8>; 2];
 
 /// A sheet of pollutant 1 alone; a vehicle is a cause and a measurement.
-fn sheet(plan: u8, limit: u32, deviation: u32, vehicles: &[(u16, u32)]) -> Vec<u8> {
-    let mut sheet = pollutant(1, plan, limit, deviation).to_vec();
-    for &(cause, measurement) in vehicles {
-        sheet.extend(engine(cause, 1, measurement));
-    }
-    sheet
+fn sheet(plan: u8, limit: u32, deviation: u32, vehicles: &[(u16, u32)]) -> Sheets {
+    SIZES.map(|size| {
+        let mut sheet = pollutant(size, 1, plan, limit, deviation);
+        for &(cause, measurement) in vehicles {
+            sheet.extend(engine(size, cause, &[(1, measurement)]));
+        }
+        sheet
+    })
 }
 
-fn verdict(sheet: &[u8]) -> (Verdict, u8, Ground) {
-    verdict_by(&Document01, sheet)
+fn stopped(sheets: Sheets) -> Sheets {
+    let [four, six] = sheets;
+    let [stop_of_four, stop_of_six] = SIZES.map(stop);
+    [[four, stop_of_four].concat(), [six, stop_of_six].concat()]
 }
 
-fn verdict_by(document: &impl Document, sheet: &[u8]) -> (Verdict, u8, Ground) {
-    let judgement = judge(document, sheet).expect("accepted");
+/// The answer to both sheets.
+fn judged(document: &impl Document, sheets: &Sheets) -> Result<Judgement, Refusal> {
+    let [four, six] = [0, 1].map(|place| judge(document, SIZES[place], &sheets[place]));
+    assert_eq!(four, six);
+    four
+}
+
+fn verdict(sheets: &Sheets) -> (Verdict, u8, Ground) {
+    verdict_by(&Document01, sheets)
+}
+
+fn verdict_by(document: &impl Document, sheets: &Sheets) -> (Verdict, u8, Ground) {
+    let judgement = judged(document, sheets).expect("accepted");
     (judgement.verdict, judgement.engine, judgement.ground)
 }
 
-fn refusal(sheet: &[u8]) -> (u8, u8) {
-    let Refusal { number, record } = judge(&Document01, sheet).expect_err("refused");
+fn refusal(sheets: &Sheets) -> (u8, u8) {
+    let Refusal { number, record } = judged(&Document01, sheets).expect_err("refused");
     (number, record)
 }
 
@@ -101,9 +107,9 @@ fn plan_2() {
 
 #[test]
 fn plan_4() {
-    assert!(judge(&Document01, &sheet(4, 1000, 0, &[(0, 1500)])).is_ok());
+    assert!(judged(&Document01, &sheet(4, 1000, 0, &[(0, 1500)])).is_ok());
     assert_eq!(refusal(&sheet(4, 1000, 0, &[(7, 1500)])), (9, 1));
-    assert!(judge(&Document01, &sheet(4, 1000, 0, &[(7, 1501)])).is_ok());
+    assert!(judged(&Document01, &sheet(4, 1000, 0, &[(7, 1501)])).is_ok());
     assert_eq!(refusal(&sheet(4, 1000, 0, &[(0, 1501)])), (9, 1));
     let three = |causes: [u16; 2]| {
         verdict(&sheet(
@@ -177,10 +183,13 @@ fn plan_5_row_32() {
 /// "Refusal 5 admits plan 5", and the others are plan 2's.
 #[test]
 fn plan_5_refusals() {
-    let two_plans = |one, other| [pollutant(1, one, 2000, 0), pollutant(2, other, 2000, 0)];
+    let two_plans = |one, other| {
+        let both = |size| [(1, one), (2, other)].map(|(n, plan)| pollutant(size, n, plan, 2000, 0));
+        SIZES.map(|size| both(size).concat())
+    };
     assert_eq!(refusal(&sheet(6, 2000, 0, &[])), (5, 0));
-    assert_eq!(refusal(two_plans(2, 5).as_flattened()), (5, 1));
-    assert_eq!(refusal(two_plans(5, 2).as_flattened()), (5, 1));
+    assert_eq!(refusal(&two_plans(2, 5)), (5, 1));
+    assert_eq!(refusal(&two_plans(5, 2)), (5, 1));
     assert_eq!(refusal(&sheet(5, 2000, 1, &[])), (7, 0));
     assert_eq!(refusal(&sheet(5, 2000, 0, &[(7, 4000)])), (9, 1));
     assert_eq!(refusal(&sheet(5, 2000, 0, &[(0, 2000); 33])), (10, 33));
@@ -188,39 +197,51 @@ fn plan_5_refusals() {
 
 #[test]
 fn plan_5_stopped() {
-    let mut sheet = sheet(5, 2000, 0, &[(0, 4000), (0, 1000)]);
-    sheet.push(3);
-    sheet.resize(80, 0);
-    assert_eq!(verdict(&sheet), (Verdict::Fail, 2, Ground::Stopped));
+    let sheets = stopped(sheet(5, 2000, 0, &[(0, 4000), (0, 1000)]));
+    assert_eq!(verdict(&sheets), (Verdict::Fail, 2, Ground::Stopped));
 }
 
 #[test]
 fn no_engine() {
-    let mut sheet = sheet(1, 4000, 1, &[]);
-    assert_eq!(verdict(&sheet), (Verdict::Another, 0, Ground::None));
-    sheet.push(3);
-    sheet.resize(40, 0);
-    assert_eq!(verdict(&sheet), (Verdict::Fail, 0, Ground::Stopped));
-    assert_eq!(evidence(&Document01, &sheet).map(<[u8]>::len), Ok(40));
+    let sheets = sheet(1, 4000, 1, &[]);
+    assert_eq!(verdict(&sheets), (Verdict::Another, 0, Ground::None));
+    let sheets = stopped(sheets);
+    assert_eq!(verdict(&sheets), (Verdict::Fail, 0, Ground::Stopped));
+    for (size, sheet) in SIZES.into_iter().zip(&sheets) {
+        assert_eq!(evidence(&Document01, size, sheet), Ok(&sheet[..]));
+    }
 }
 
 #[test]
 fn printed_example() {
-    let mut buffer = [0; 120];
-    let records = [[0; 20]; 5].map(|_| engine(0, 4, 140));
-    buffer[..20].copy_from_slice(&pollutant(4, 3, 150, 0));
-    for (place, record) in records.iter().enumerate() {
+    for size in SIZES {
+        let mut buffer = vec![0; 6 * size];
+        buffer[..size].copy_from_slice(&pollutant(size, 4, 3, 150, 0));
+        for place in 1..6 {
+            let record = engine(size, 0, &[(4, 140)]);
+            let added = append(&Document01, size, &mut buffer, place * size, &record);
+            assert_eq!(added, Ok(()));
+        }
         assert_eq!(
-            append(&Document01, &mut buffer, 20 + 20 * place, record),
-            Ok(())
+            evidence(&Document01, size, &buffer),
+            Ok(&buffer[..5 * size])
+        );
+        assert_eq!(
+            judge(&Document01, size, &buffer).map(|judgement| judgement.decisions[3]),
+            Ok((Decision::Pass, 4))
         );
     }
-    assert_eq!(lines(&Document01, &buffer[..100]), "pass 4 1\n4 pass 4\n");
-    assert_eq!(evidence(&Document01, &buffer), Ok(&buffer[..100]));
-    assert_eq!(
-        judge(&Document01, &buffer).map(|judgement| judgement.decisions[3]),
-        Ok((Decision::Pass, 4))
-    );
-    buffer[100] = 9;
-    assert_eq!(lines(&Document01, &buffer), "refused 2 5\n");
+}
+
+/// F-10: "`verdict` reads 20-byte sheets."
+#[test]
+fn printed_lines() {
+    let mut sheet = pollutant(FOUR_POLLUTANTS, 4, 3, 150, 0);
+    sheet.extend(engine(FOUR_POLLUTANTS, 0, &[(4, 140)]).repeat(4));
+    assert_eq!(lines(&Document01, &sheet), "pass 4 1\n4 pass 4\n");
+    sheet.extend([9; FOUR_POLLUTANTS]);
+    assert_eq!(lines(&Document01, &sheet), "refused 2 5\n");
+    let mut of_six = sheet;
+    of_six.resize(28, 0);
+    assert_eq!(lines(&Document01, &of_six), "refused 1 0\n");
 }

@@ -1,17 +1,18 @@
 -- `equal_causes` meets its contract: `count` is the number of the engines passed that have the cause.
 use Rattle.arithmetic.proofs.Basics.{_-_, _≤_, arith, _≡_, refl, Bool, true, false, eqb, needs}
 use mir.Val.{boolByte}
-use Rattle.accepted.proofs.Sheets.{few, inside}
+use Rattle.accepted.proofs.Sheets.{few, inside, record-inside}
+use Rattle.record.specs.Sizes.{widthIs}
 use Rattle.causes.specs.Causes.{equalCauses}
 use Rattle.causes.proofs.Gating.{equal-next}
 use Rattle.causes.proofs.equal_causes.Statement.{statement}
 use Rattle.causes.proofs.equal_causes.Tie as tie
 
 abbrev Inv-loop : tie.InvT-loop
-Inv-loop bytes start n cause count₀ k₀ count k = (k ≤ n) × (count ≤ k) × (count ≡ equalCauses bytes k cause)
+Inv-loop size bytes start n cause count₀ k₀ count k = (k ≤ n) × (count ≤ k) × (count ≡ equalCauses (widthIs size) bytes k cause)
 
 abbrev μ-loop : tie.MeasureT-loop
-μ-loop bytes start n cause count₀ k₀ count k = n - k
+μ-loop size bytes start n cause count₀ k₀ count k = n - k
 
 one : (t : Bool) → boolByte t ≤ 1
 one true = omega arith
@@ -35,7 +36,7 @@ equal-causes-spec =
     Inv-loop μ-loop
     (λ c. (omega arith, omega arith, refl))
     (λ c. let p = c .before .before .before .pre in omega (arith, p .some, few (p .sheet)))
-    (λ c κs. let p = c .before .before .before .pre in record { inside = omega (arith, p .some, inside (p .sheet)) })
+    (λ c κs. let p = c .before .before .before .pre in record { inside = record-inside _ _ _ _ (inside (p .sheet)) (omega (arith, p .some)) })
     (λ c κs. search needs) (λ c. search needs)
     (λ c. let p = c .before .before .before .before .before .pre in omega (arith, p .some, few (p .sheet), one (eqb (c .cause-of .result) (c .before .before .before .before .before .args .cause))))
     (λ c. let p = c .before .before .before .before .before .pre in omega (arith, p .some, few (p .sheet)))

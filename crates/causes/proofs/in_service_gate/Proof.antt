@@ -1,18 +1,19 @@
 -- `in_service_gate` meets its contract: while the loop goes on, all rows so far may be looked at.
 use Rattle.arithmetic.proofs.Basics.{_-_, arith}
+use Rattle.record.specs.Sizes.{widthIs}
 use Rattle.causes.specs.Ranges.{InServiceRange}
 use Rattle.causes.proofs.Gating.{Gated, few-rows, emitters-are, few-gate, gated-none, cause-gate, referral-gate, gated-next, gated-all}
 use Rattle.causes.proofs.in_service_gate.Statement.{statement}
 use Rattle.causes.proofs.in_service_gate.Tie as tie
 
 abbrev Inv-loop : tie.InvT-loop
-Inv-loop bytes start engines repeated₀ n₀ repeated n = Gated bytes engines n repeated
+Inv-loop size bytes start engines repeated₀ n₀ repeated n = Gated (widthIs size) bytes engines n repeated
 
 abbrev μ-loop : tie.MeasureT-loop
-μ-loop bytes start engines repeated₀ n₀ repeated n = engines - n
+μ-loop size bytes start engines repeated₀ n₀ repeated n = engines - n
 
-range : (c : tie.At-loop Inv-loop μ-loop)
-    → InServiceRange (c .before .before .before .before .args .bytes .now) (c .before .before .before .before .args .start) (c .before .before .before .before .args .engines)
+range : (c : tie.At-loop Inv-loop μ-loop) → let a = c .before .before .before .before .args in
+    InServiceRange (widthIs (a .size)) (a .bytes .now) (a .start) (a .engines)
 range c = c .before .before .before .before .pre
 
 returns-2 : tie.Need-returns-2 Inv-loop μ-loop

@@ -1,6 +1,6 @@
 -- `repeats` meets its contract: a vehicle without a cause repeats none, and any other one that was counted.
 use Rattle.arithmetic.proofs.Basics.{arith, needs}
-use Rattle.accepted.proofs.Sheets.{few, inside}
+use Rattle.accepted.proofs.Sheets.{few, inside, record-inside}
 use Rattle.causes.proofs.Gating.{repeats-none, repeats-next}
 use Rattle.causes.proofs.repeats.Statement.{statement}
 use Rattle.causes.proofs.repeats.Tie as tie
@@ -21,7 +21,7 @@ repeats-spec =
     tie.close
     (tie.spec
     (λ c. let p = c .before .pre in omega (arith, p .some, few (p .sheet)))
-    (λ c κs. let p = c .before .pre in record { inside = omega (arith, p .some, inside (p .sheet)) })
+    (λ c κs. let p = c .before .pre in record { inside = record-inside _ _ _ _ (inside (p .sheet)) (omega (arith, p .some)) })
     (λ c κs. search needs) returns
     (λ c κs. let p = c .before .before .before .before .pre in record { sheet = p .sheet; some = omega (arith, p .some) })
     returns-2)

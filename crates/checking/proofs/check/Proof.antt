@@ -1,27 +1,12 @@
--- A refused length, or the answer for the records.
-use Rattle.arithmetic.proofs.Basics.{sym, _∙_, needs}
-use Rattle.rules.specs.Refusals.{check}
-use Rattle.checking.specs.Check.{checkedOf}
-use Rattle.checking.proofs.Laws.{whole-ranges, whole-checked}
+-- A size that there is not, or the check by the size.
+use Rattle.arithmetic.proofs.Basics.{needs}
+use Rattle.checking.proofs.Laws.{size-known, size-unknown}
 use Rattle.checking.proofs.check.Statement.{statement}
 use Rattle.checking.proofs.check.Tie as tie
-
-length-refused : tie.Need-returns
-unfolding checkedOf check
-length-refused c = rw (sym (c .before .before .bad-length .ensures) ∙ c .before .if1 .taken) (c .refused-length .ensures)
-
-ranges : tie.Need-check-after-requires
-ranges c κs =
-    let f = c .before in
-    whole-ranges (c .nothing .ensures) _ (sym (f .before .bad-length .ensures) ∙ f .if1 .left)
-
-answered : tie.Need-returns-2
-answered c =
-    let f = c .before .before in
-    c .check-after .ensures ∙ whole-checked (c .before .nothing .ensures) _ (sym (f .before .bad-length .ensures) ∙ f .if1 .left)
 
 pub check-spec : {M : Type 1} → statement M
 check-spec =
     tie.close
     (tie.spec
-    (λ c κs. search needs) (λ c κs. search needs) length-refused (λ c κs. search needs) ranges answered)
+    (λ c κs. search needs) (λ c. search needs) (λ c. search needs) (λ c κs. search needs) (λ c. rw (c .of-size .ensures) (size-unknown _ _ (c .before .before .before .of .ensures) (c .before .enum-told .given .1)))
+    (λ c κs. search needs) (λ c. let k = c .before .before in size-known _ _ (k .before .before .of .ensures) (k .size .given .1) (c .check-sheet .ensures)))

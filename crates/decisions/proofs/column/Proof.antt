@@ -3,6 +3,7 @@ use Rattle.arithmetic.proofs.Basics.{_≡_, refl, true, List, ℤ, arith, needs
 use Rattle.plan.specs.declared.Plan.{Plan}
 use Rattle.plan.specs.declared.Plan.the-variants.{KnownDeviation, UnknownDeviation, InService, Corrected}
 use Rattle.plan.specs.Plan.{planIs}
+use Rattle.record.specs.Sizes.{widthIs}
 use Rattle.tables.specs.Tables.{tableOf, Lent}
 use Rattle.decisions.specs.Ranges.{takesLogarithms, LogarithmsRange}
 use Rattle.decisions.proofs.column.Statement.{statement}
@@ -10,7 +11,7 @@ use Rattle.decisions.proofs.column.Tie as tie
 
 -- the range of a column of the plan, and the plan's table
 ready : (c : tie.Start) (plan : Plan) {t : List (List ℤ)} → c .args .plan ≡ plan → takesLogarithms (planIs plan) ≡ true → t ≡ tableOf (planIs plan) → let a = c .args in
-    LogarithmsRange (a .bytes .now) (a .start) (a .plan) (a .number) (a .limit) (a .deviation) (a .rows) × Lent (planIs (a .plan)) t
+    LogarithmsRange (widthIs (a .size)) (a .bytes .now) (a .start) (a .plan) (a .number) (a .limit) (a .deviation) (a .rows) × Lent (planIs (a .plan)) t
 ready c plan e l h = (record { column = c .pre; logs = rw e l }, record { holds = rw e h })
 
 column-requires-3 : tie.Need-column-requires-3

@@ -8,7 +8,7 @@ use Rattle.probe.proofs.probe_step.Tie as tie
 
 returns : tie.Need-returns
 returns c =
-    let t = c .before .turn-at .ensures ∙ ap (turnAt _) (c .before .before .walked .ensures) in
+    let t = c .before .turn-at .ensures ∙ ap (turnAt _ _) (c .before .before .walked .ensures) in
     (ap (λ (x : Turn). x .left) t, c .numbers-of .ensures ∙ ap (λ (x : Turn). numbersOf (x .step)) t)
 
 pub probe-step-spec : {M : Type 1} → statement M

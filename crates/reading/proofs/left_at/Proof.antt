@@ -1,8 +1,7 @@
 -- The records from a number on are counted by the difference, 0 from the end on.
 use Rattle.arithmetic.proofs.Basics.{arith, needs}
-use Rattle.accepted.proofs.Records.{length-records}
-use Rattle.rules.specs.Sheet.{pollutants}
 use Rattle.reading.specs.Steps.{leftAt}
+use Rattle.reading.proofs.Counts.{length-sized}
 use Rattle.reading.proofs.left_at.Statement.{statement}
 use Rattle.reading.proofs.left_at.Tie as tie
 
@@ -11,6 +10,7 @@ unfolding leftAt
 left-at-spec =
     tie.close
     (tie.spec
+    (λ c κs. search needs)
     (λ c. search needs)
-    (λ c. omega (arith, length-records pollutants (c .before .args .bytes .now)))
-    (λ c. omega (arith, length-records pollutants (c .before .args .bytes .now))))
+    (λ c. let a = c .before .before .before .args in omega (arith, c .before .whole-records .ensures, length-sized (a .size) (a .bytes .now)))
+    (λ c. let a = c .before .before .before .args in omega (arith, c .before .whole-records .ensures, length-sized (a .size) (a .bytes .now))))

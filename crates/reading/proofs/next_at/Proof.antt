@@ -1,8 +1,7 @@
 -- `next_at` meets its contract: before the end the number after is one more.
 use Rattle.arithmetic.proofs.Basics.{refl, needs, lt-ltb, le-ltb}
-use Rattle.rules.specs.Sheet.{pollutants}
-use Rattle.accepted.proofs.Records.{length-records}
 use Rattle.reading.specs.Steps.{nextAt}
+use Rattle.reading.proofs.Counts.{length-sized}
 use Rattle.reading.proofs.next_at.Statement.{statement}
 use Rattle.reading.proofs.next_at.Tie as tie
 
@@ -11,6 +10,7 @@ unfolding nextAt
 next-at-spec =
     tie.close
     (tie.spec
+    (λ c κs. search needs)
     (λ c. search needs)
-    (λ c. rw (length-records pollutants (c .before .args .bytes .now), lt-ltb _ _ (c .if1 .taken)) refl)
-    (λ c. rw (length-records pollutants (c .before .args .bytes .now), le-ltb _ _ (c .if1 .left)) refl))
+    (λ c. let a = c .before .before .before .args in rw (length-sized (a .size) (a .bytes .now), ← c .before .whole-records .ensures, lt-ltb _ _ (c .if1 .taken)) refl)
+    (λ c. let a = c .before .before .before .args in rw (length-sized (a .size) (a .bytes .now), ← c .before .whole-records .ensures, le-ltb _ _ (c .if1 .left)) refl))

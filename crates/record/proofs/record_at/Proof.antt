@@ -7,5 +7,6 @@ pub record-at-spec : {M : Type 1} → statement M
 record-at-spec =
     tie.close
     (tie.spec
-    (λ c. search needs) (λ c. search needs) (λ c. search needs) (λ c. search needs) (λ c. search needs)
-    (λ c. rw add-sub-cancel-left))
+    (λ c κs. search needs) (λ c. rw (c .bytes .ensures) (search needs)) (λ c. rw (c .bytes .ensures) (search needs)) (λ c. search needs) (λ c. search needs)
+    (λ c. rw (c .bytes .ensures) (search needs))
+    (λ c. rw (add-sub-cancel-left, c .before .bytes .ensures)))

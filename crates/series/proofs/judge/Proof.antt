@@ -1,19 +1,14 @@
--- `judge` meets its contract: the check's refusal, or the judgement of an accepted sheet.
+-- `judge` meets its contract: a size that there is not, or the judgement by the size.
 use Rattle.arithmetic.proofs.Basics.{needs}
-use Rattle.series.proofs.Judging.{valid, refused-so, judge-refused, judge-accepted}
+use Rattle.series.proofs.Judging.{judge-unknown, judge-known}
 use Rattle.series.proofs.judge.Statement.{statement}
 use Rattle.series.proofs.judge.Tie as tie
-
-returns-2 : tie.Need-returns-2
-returns-2 c =
-    let v = valid _ (c .before .before .before .before .check .ensures) (c .before .before .checked .given .1) in
-    (judge-accepted v (c .judgement-of .ensures), c .judgement-of .ensures .declares)
 
 pub judge-spec : {M : Type 1} → statement M
 judge-spec =
     tie.close
     (tie.spec
     (λ c κs. search needs) (λ c. search needs) (λ c. search needs) (λ c κs. search needs)
-    (λ c. (judge-refused _ (refused-so _ (c .before .before .before .check .ensures) (c .before .enum-told .given .1) (c .refusal .ensures)), tt))
-    (λ c κs. valid _ (c .before .before .before .check .ensures) (c .before .checked .given .1))
-    returns-2)
+    (λ c. (rw (c .of-size .ensures) (judge-unknown _ _ (c .before .before .before .of .ensures) (c .before .enum-told .given .1)), tt))
+    (λ c κs. search needs)
+    (λ c. let k = c .before .before in judge-known _ _ (k .before .before .of .ensures) (k .size .given .1) (c .judge-sheet .result) (c .judge-sheet .ensures)))

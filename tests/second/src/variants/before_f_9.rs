@@ -38,7 +38,13 @@ impl Document for SixteenStepsUnder {
 /// "Verdicts are compared with the finer definition from here on, also for old sheets", under each
 /// plan that asks for logarithms.
 pub fn sixteen_steps_under_one_plan() -> Vec<Family> {
-    let under = |plan| Wrong::new(format!("plan {plan}"), SixteenStepsUnder(plan));
-    let readings = [1, 2, 4, 5].map(under);
-    vec![Family::new("sixteen steps under one plan", readings)]
+    let under = |plan| {
+        let reading = Wrong::new("sixteen steps", SixteenStepsUnder(plan));
+        Family::new(
+            "sixteen steps under this plan alone".to_string(),
+            plan,
+            [reading],
+        )
+    };
+    [1, 2, 4, 5].map(under).into()
 }

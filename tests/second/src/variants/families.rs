@@ -65,10 +65,10 @@ pub fn decision_numbers() -> Vec<Family> {
     for plan in 1..=PLANS {
         for column in [Column::Pass, Column::Fail] {
             for by in [1, -1] {
-                let title = format!("plan {plan}, {column:?} numbers off by {by:+}");
+                let title = format!("{column:?} numbers off by {by:+}");
                 let rows = 3..=Document01.last_row(plan);
                 let readings = rows.filter_map(|n| number_off(plan, column, n, by));
-                families.push(Family::new(title, readings));
+                families.push(Family::new(title, plan, readings));
             }
         }
     }
@@ -100,29 +100,30 @@ pub fn variances() -> Vec<Family> {
     let mut families = Vec::new();
     for plan in UNKNOWN_DEVIATION {
         for by in [1, -1] {
-            let title = format!("plan {plan}, W off by {by:+}");
+            let title = format!("W off by {by:+}");
             let rows = 3..=Document01.last_row(plan);
             let off = |n| Wrong::new(format!("row {n}"), WOff { plan, n, by });
-            families.push(Family::new(title, rows.map(off)));
+            families.push(Family::new(title, plan, rows.map(off)));
         }
     }
     families
 }
 
-/// The logarithm of one m a unit more, and a unit less: at the ends of the range, at primes, at
-/// 3,000,000, which the sweep measures on many sheets, and at the middle, where it turns from
-/// double to half the limit.
-pub fn logarithms() -> Vec<Family> {
-    let family = |by| {
-        let title = format!("logarithm of one m off by {by:+}");
-        let off = |m| Wrong::new(format!("m = {m}"), GOff { m, by });
-        let ends = [1, 2, 3, 9_999_999];
-        let inside = [65_539, 3_000_000];
-        let middle = [4_999_999, 5_000_000, 5_000_001, 5_000_011];
-        let all = ends.into_iter().chain(inside).chain(middle);
-        Family::new(title, all.map(off))
-    };
-    vec![family(1), family(-1)]
+/// The logarithm of one m a unit more, and a unit less, each with the m: at the ends of the range,
+/// at primes, at 3,000,000, which the sweep measures on many sheets, and at the middle, where it
+/// turns from double to half the limit.
+pub fn logarithms() -> Vec<(u32, Wrong)> {
+    let ends = [1, 2, 3, 9_999_999];
+    let inside = [65_539, 3_000_000];
+    let middle = [4_999_999, 5_000_000, 5_000_001, 5_000_011];
+    let mut all = Vec::new();
+    for m in ends.into_iter().chain(inside).chain(middle) {
+        for by in [1, -1] {
+            let description = format!("logarithm of {m} off by {by:+}");
+            all.push((m, Wrong::new(description, GOff { m, by })));
+        }
+    }
+    all
 }
 
 /// The equality of causes, which have two bytes.
@@ -144,7 +145,7 @@ pub fn causes() -> Vec<Family> {
         ),
     ];
     vec![
-        Family::new("equality of one cause ignored", ignored),
-        Family::new("causes compared by one byte only", one_byte),
+        Family::new("equality of one cause ignored".to_string(), 4, ignored),
+        Family::new("causes compared by one byte only".to_string(), 4, one_byte),
     ]
 }

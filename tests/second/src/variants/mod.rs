@@ -12,20 +12,25 @@
 //! sixteen steps in the new unit do: D, the root of W and plan 1's lines are all 16 times smaller.
 
 mod before_f_9;
+mod convert;
 mod declared;
 mod families;
 mod probe;
 mod report;
+mod sizes;
 
 use crate::document::Document;
 use before_f_9::OldUnits;
 use families::Number;
 
 pub use before_f_9::{sixteen_steps_under_one_plan, SixteenSteps};
+pub use convert::convert;
 pub use declared::declared;
 pub use families::{causes, decision_numbers, logarithms, variances};
-pub use probe::{brackets, brackets_of_few, logarithm_evidence_and_lines, reader};
+pub use probe::{brackets, brackets_of_few, logarithm};
+pub use probe::{evidence, evidence_by_size, lines, reader, reader_by_size};
 pub use report::report_and_append;
+pub use sizes::sizes;
 
 /// One wrong reading.
 pub struct Wrong {
@@ -42,16 +47,18 @@ impl Wrong {
     }
 }
 
-/// Wrong readings of the same kind.
+/// Wrong readings of the same kind, all of one plan.
 pub struct Family {
     pub title: String,
+    pub plan: u8,
     pub readings: Vec<Wrong>,
 }
 
 impl Family {
-    fn new(title: impl Into<String>, readings: impl IntoIterator<Item = Wrong>) -> Self {
+    fn new(title: String, plan: u8, readings: impl IntoIterator<Item = Wrong>) -> Self {
         Family {
-            title: title.into(),
+            title: format!("plan {plan}, {title}"),
+            plan,
             readings: readings.into_iter().collect(),
         }
     }

@@ -3,11 +3,12 @@
 
 use super::families::GOff;
 use super::{wrong, OldUnits, SixteenSteps, Wrong};
-use crate::check::{number_at, Record, Refusal, RECORD};
+use crate::check::{number_at, Record, Refusal, FOUR_POLLUTANTS, SIX_POLLUTANTS};
 use crate::document::{Document, Document01};
 use crate::judge::Ground;
+use std::borrow::Cow;
 
-pub fn logarithm_evidence_and_lines() -> Vec<Wrong> {
+pub fn logarithm() -> Vec<Wrong> {
     vec![
         wrong!(
             "logarithm: Q / 2^31 rounded to the nearest",
@@ -21,15 +22,20 @@ pub fn logarithm_evidence_and_lines() -> Vec<Wrong> {
         ),
         Wrong::new("logarithm: sixteen steps, as before F-9", SixteenSteps),
         Wrong::new("logarithm: in units of 1/65,536, as before F-9", OldUnits),
+    ]
+}
+
+pub fn evidence() -> Vec<Wrong> {
+    vec![
         wrong!(
             "evidence: always the whole sheet",
-            fn evidence_length(&self, _: Ground, _: usize, whole: usize) -> usize {
+            fn evidence_records(&self, _: Ground, _: usize, whole: usize) -> usize {
                 whole
             }
         ),
         wrong!(
             "evidence: a stopped sheet without its stop",
-            fn evidence_length(
+            fn evidence_records(
                 &self,
                 ground: Ground,
                 through_engine: usize,
@@ -37,21 +43,21 @@ pub fn logarithm_evidence_and_lines() -> Vec<Wrong> {
             ) -> usize {
                 match ground {
                     Ground::Stopped => through_engine,
-                    _ => Document01.evidence_length(ground, through_engine, whole),
+                    _ => Document01.evidence_records(ground, through_engine, whole),
                 }
             }
         ),
         wrong!(
             "evidence: without the deciding engine's record",
-            fn evidence_length(
+            fn evidence_records(
                 &self,
                 ground: Ground,
                 through_engine: usize,
                 whole: usize,
             ) -> usize {
                 match ground {
-                    Ground::Row => through_engine - RECORD,
-                    _ => Document01.evidence_length(ground, through_engine, whole),
+                    Ground::Row => through_engine - 1,
+                    _ => Document01.evidence_records(ground, through_engine, whole),
                 }
             }
         ),
@@ -61,6 +67,11 @@ pub fn logarithm_evidence_and_lines() -> Vec<Wrong> {
                 Refusal::of_no_record(refusal.number)
             }
         ),
+    ]
+}
+
+pub fn lines() -> Vec<Wrong> {
+    vec![
         wrong!(
             "lines: a line for each undeclared pollutant too",
             fn has_line(&self, _: u32) -> bool {
@@ -83,6 +94,12 @@ pub fn logarithm_evidence_and_lines() -> Vec<Wrong> {
             "lines: record before number",
             fn refused_line(&self, Refusal { number, record }: Refusal) -> String {
                 format!("refused {record} {number}\n")
+            }
+        ),
+        wrong!(
+            "lines: of 28-byte sheets",
+            fn size_of_verdict(&self) -> usize {
+                SIX_POLLUTANTS
             }
         ),
     ]
@@ -153,23 +170,136 @@ pub fn reader() -> Vec<Wrong> {
         wrong!(
             "reader: measurements 2 and 3 exchanged",
             fn measurement(&self, record: &Record, pollutant: usize) -> u32 {
-                number_at(record, [4, 12, 8, 16][pollutant])
+                number_at(record, [4, 12, 8, 16, 20, 24][pollutant])
             }
         ),
         wrong!(
             "reader: a record cut short counted as a record",
-            fn record_at(&self, sheet: &[u8], number: usize) -> Option<Record> {
-                let cut_short = sheet.chunks(RECORD).nth(number)?;
-                let mut record = [0; RECORD];
-                record[..cut_short.len()].copy_from_slice(cut_short);
-                Some(record)
+            fn record_at<'a>(
+                &self,
+                size: usize,
+                sheet: &'a [u8],
+                number: usize,
+            ) -> Option<Cow<'a, Record>> {
+                if !self.size_fits(size) {
+                    return None;
+                }
+                let mut record = sheet.chunks(size).nth(number)?.to_vec();
+                record.resize(size, 0);
+                Some(Cow::Owned(record))
             }
         ),
         wrong!(
             "reader: the last record not reached",
-            fn record_at(&self, sheet: &[u8], number: usize) -> Option<Record> {
-                Document01.record_at(sheet, number + 1)?;
-                Document01.record_at(sheet, number)
+            fn record_at<'a>(
+                &self,
+                size: usize,
+                sheet: &'a [u8],
+                number: usize,
+            ) -> Option<Cow<'a, Record>> {
+                Document01.record_at(size, sheet, number + 1)?;
+                Document01.record_at(size, sheet, number)
+            }
+        ),
+    ]
+}
+
+/// Evidence, of which "callers name the size" (document 02, F-10).
+pub fn evidence_by_size() -> Vec<Wrong> {
+    vec![
+        wrong!(
+            "evidence: 20 bytes for each record, whatever the size",
+            fn evidence_length(&self, _: usize, records: usize) -> usize {
+                records * FOUR_POLLUTANTS
+            }
+        ),
+        wrong!(
+            "evidence: 1 before 30",
+            fn sheet_fault(&self, size: usize, length: usize) -> Option<u8> {
+                if length == 0 {
+                    Some(1)
+                } else {
+                    Document01.sheet_fault(size, length)
+                }
+            }
+        ),
+        wrong!(
+            "evidence: a size of 24 accepted",
+            fn sheet_fault(&self, size: usize, length: usize) -> Option<u8> {
+                match size {
+                    24 => None,
+                    _ => Document01.sheet_fault(size, length),
+                }
+            }
+        ),
+        wrong!(
+            "evidence: record 1 for refusal 30",
+            fn refusal_of_no_record(&self, number: u8) -> Refusal {
+                let record = u8::from(number == 30);
+                Refusal { number, record }
+            }
+        ),
+    ]
+}
+
+/// A sheet under reading, of which "callers name the size" (document 02, F-10).
+pub fn reader_by_size() -> Vec<Wrong> {
+    vec![
+        wrong!(
+            "reader: records of 20 bytes for either size",
+            fn record_at<'a>(
+                &self,
+                size: usize,
+                sheet: &'a [u8],
+                number: usize,
+            ) -> Option<Cow<'a, Record>> {
+                let size = match size {
+                    SIX_POLLUTANTS => FOUR_POLLUTANTS,
+                    _ => size,
+                };
+                Document01.record_at(size, sheet, number)
+            }
+        ),
+        wrong!(
+            "reader: records of a size of 24",
+            fn record_at<'a>(
+                &self,
+                size: usize,
+                sheet: &'a [u8],
+                number: usize,
+            ) -> Option<Cow<'a, Record>> {
+                match size {
+                    24 => sheet.chunks_exact(24).nth(number).map(Cow::Borrowed),
+                    _ => Document01.record_at(size, sheet, number),
+                }
+            }
+        ),
+        wrong!(
+            "reader: measurements 5 and 6 read behind a record of 20 bytes",
+            fn record_at<'a>(
+                &self,
+                size: usize,
+                sheet: &'a [u8],
+                number: usize,
+            ) -> Option<Cow<'a, Record>> {
+                Document01.record_at(size, sheet, number)?;
+                let rest = &sheet[number * size..];
+                Some(Cow::Borrowed(&rest[..rest.len().min(SIX_POLLUTANTS)]))
+            }
+        ),
+        wrong!(
+            "reader: measurements 5 and 6 exchanged",
+            fn measurement(&self, record: &Record, pollutant: usize) -> u32 {
+                number_at(record, [4, 8, 12, 16, 24, 20][pollutant])
+            }
+        ),
+        wrong!(
+            "reader: measurement 6 not read",
+            fn measurement(&self, record: &Record, pollutant: usize) -> u32 {
+                match pollutant {
+                    5 => 0,
+                    _ => Document01.measurement(record, pollutant),
+                }
             }
         ),
     ]

@@ -1,10 +1,10 @@
 //! Wrong readings that are seen in what report and append answer.
 
 use super::{wrong, Number, OldUnits, SixteenSteps, Wrong};
-use crate::check::{Record, Refusal, Series, LONGEST_SHEET, RECORD};
+use crate::check::{Record, Refusal, Series};
 use crate::document::{Document, Document01, PLANS};
 use crate::judge::{Decision, Ending, GrossEmitters, Ground, Judgement, Row, Verdict};
-use crate::operations::REPORT;
+use crate::operations::LONGEST_REPORT;
 use crate::tables::Column;
 
 pub fn report_and_append() -> Vec<Wrong> {
@@ -494,9 +494,9 @@ fn stops() -> Vec<Wrong> {
 fn refusals() -> Vec<Wrong> {
     vec![
         wrong!(
-            "refusal 1: 740 bytes refused",
-            fn length_fits(&self, length: usize) -> bool {
-                Document01.length_fits(length) && length < LONGEST_SHEET
+            "refusal 1: the most records refused",
+            fn length_fits(&self, size: usize, length: usize) -> bool {
+                Document01.length_fits(size, length) && length < self.longest_sheet(size)
             }
         ),
         wrong!(
@@ -523,8 +523,9 @@ fn refusals() -> Vec<Wrong> {
         ),
         wrong!(
             "refusal 4: an equal number accepted",
-            fn pollutant_fits(&self, number: u8, before: u8) -> bool {
-                (1..=4).contains(&number) && number >= before
+            fn pollutant_fits(&self, number: u8, so_far: &Series) -> bool {
+                let again = number != 0 && number == so_far.highest_pollutant;
+                again || Document01.pollutant_fits(number, so_far)
             }
         ),
         wrong!(
@@ -628,7 +629,7 @@ fn refusals() -> Vec<Wrong> {
         wrong!(
             "refusal 12: the last byte of a stop not looked at",
             fn stop_rest_is_zero(&self, record: &Record) -> bool {
-                record[1..RECORD - 1].iter().all(|&byte| byte == 0)
+                record[1..record.len() - 1].iter().all(|&byte| byte == 0)
             }
         ),
     ]
@@ -638,9 +639,9 @@ fn operations() -> Vec<Wrong> {
     vec![
         wrong!(
             "append: 13 before 14",
-            fn append_fault(&self, record: usize, rest: Option<usize>) -> Option<u8> {
-                let no_space = Document01.append_fault(RECORD, rest);
-                no_space.or(Document01.append_fault(record, rest))
+            fn append_fault(&self, size: usize, record: usize, rest: Option<usize>) -> Option<u8> {
+                let no_space = Document01.append_fault(size, size, rest);
+                no_space.or(Document01.append_fault(size, record, rest))
             }
         ),
         wrong!(
@@ -665,36 +666,38 @@ fn operations() -> Vec<Wrong> {
             "report: 15 after the check",
             fn report_answer(
                 &self,
+                size: usize,
                 output: usize,
                 judged: Result<Judgement, Refusal>,
             ) -> Result<Judgement, Refusal> {
                 let judgement = judged?;
-                Document01.report_answer(output, Ok(judgement))
+                Document01.report_answer(size, output, Ok(judgement))
             }
         ),
         wrong!(
             "report: ground before verdict",
-            fn report_bytes(&self, judgement: &Judgement) -> [u8; REPORT] {
-                let mut bytes = Document01.report_bytes(judgement);
+            fn report_bytes(&self, size: usize, judgement: &Judgement) -> [u8; LONGEST_REPORT] {
+                let mut bytes = Document01.report_bytes(size, judgement);
                 bytes.swap(1, 2);
                 bytes
             }
         ),
         wrong!(
-            "report: pollutant 4 first",
-            fn report_bytes(&self, judgement: &Judgement) -> [u8; REPORT] {
+            "report: the last pollutant first",
+            fn report_bytes(&self, size: usize, judgement: &Judgement) -> [u8; LONGEST_REPORT] {
                 let mut decisions = judgement.decisions;
-                decisions.reverse();
-                Document01.report_bytes(&Judgement {
+                decisions[..self.pollutants(size)].reverse();
+                let reversed = Judgement {
                     decisions,
                     ..*judgement
-                })
+                };
+                Document01.report_bytes(size, &reversed)
             }
         ),
         wrong!(
-            "report: the eight zeros not written",
-            fn bytes_written(&self) -> usize {
-                REPORT - 8
+            "report: the zeros behind the pairs not written",
+            fn bytes_written(&self, size: usize) -> usize {
+                4 + 2 * self.pollutants(size)
             }
         ),
     ]

@@ -17,9 +17,9 @@ log2-four-requires c κs =
     let p = c .before .before .before .before .pre in
     record {
       a = p .number;
-      b = rw (c .before .before .measured-or-one .ensures) (or-ranges _ _ _ _ (p .all) _);
-      c = rw (c .before .measured-or-one2 .ensures) (or-ranges _ _ _ _ (p .all) _);
-      d = rw (c .measured-or-one3 .ensures) (or-ranges _ _ _ _ (p .all) _);
+      b = rw (c .before .before .measured-or-one .ensures) (or-ranges _ _ _ _ _ (p .all) _);
+      c = rw (c .before .measured-or-one2 .ensures) (or-ranges _ _ _ _ _ (p .all) _);
+      d = rw (c .measured-or-one3 .ensures) (or-ranges _ _ _ _ _ (p .all) _);
     }
 
 returns : tie.Need-returns

@@ -2,10 +2,11 @@
 -- the four logarithms at hand are those that the last row stands among.
 use Rattle.arithmetic.proofs.Basics.{ℕ, _+_, _-_, _*_, _%_, _≤_, arith, _≡_, refl, sym, ap, _∙_, not, _||_, cond, List, eqb, getD, needs}
 use Rattle.rules.specs.Logarithm.{squarings, g}
-use Rattle.rules.specs.Sheet.{cause}
 use Rattle.rules.specs.Plans.{lastRow}
 use Rattle.rules.specs.Series.{isOpen, decidedAt}
+use Rattle.accepted.proofs.Sheets.{record-inside}
 use Rattle.plan.specs.Plan.{planIs}
+use Rattle.record.specs.Sizes.{widthIs}
 use Rattle.logarithm.proofs.Bounds.{g-fits}
 use Rattle.rows.specs.declared.Row.{Row}
 use Rattle.decisions.specs.Column.{columnIs}
@@ -18,42 +19,42 @@ use Rattle.decisions.proofs.logarithms.column.Statement.{statement}
 use Rattle.decisions.proofs.logarithms.column.Tie as tie
 
 abbrev Inv-loop : tie.InvT-loop
-Inv-loop bytes start plan number limit deviation rows table logs₀ level sum₀ squares₀ any₀ n₀ logs sum squares any n =
+Inv-loop size bytes start plan number limit deviation rows table logs₀ level sum₀ squares₀ any₀ n₀ logs sum squares any n =
     (n ≤ rows)
-    × Logs logs bytes start number rows n
-    × (columnIs plan bytes number limit deviation n ≡ isOpen)
-    × Sums bytes number limit n level sum squares any
+    × Logs logs (widthIs size) bytes start number rows n
+    × (columnIs (widthIs size) plan bytes number limit deviation n ≡ isOpen)
+    × Sums (widthIs size) bytes number limit n level sum squares any
 
 abbrev μ-loop : tie.MeasureT-loop
-μ-loop bytes start plan number limit deviation rows table logs₀ level sum₀ squares₀ any₀ n₀ logs sum squares any n = rows - n
+μ-loop size bytes start plan number limit deviation rows table logs₀ level sum₀ squares₀ any₀ n₀ logs sum squares any n = rows - n
 
 -- the function's entry, and the loop's body
 entry : tie.At-loop Inv-loop μ-loop → tie.Start Inv-loop μ-loop
 entry c = c .before .before .before .before .before
 
 body : tie.After-four-with Inv-loop μ-loop → tie.In-loop Inv-loop μ-loop
-body c = c .before .before .before .before
+body c = c .before .before .before
 
 level-is : (c : tie.After-put-four Inv-loop μ-loop) → getD (c .put-four .last .0) 0 0 ≡ g squarings (c .before .before .before .before .args .limit)
 level-is c = ap (λ (xs : List ℕ). getD xs 0 0) (c .put-four .ensures)
 
 -- the row's number, and the logarithm at hand
 abbrev N : tie.After-four-with Inv-loop μ-loop → ℕ
-N c = c .before .before .before .before .before .loop .n + 1
+N c = c .before .before .before .before .loop .n + 1
 
 abbrev Y : tie.After-four-with Inv-loop μ-loop → ℕ
 Y c = getD (c .four-with .last .0) (N c % 4) 0
 
 -- the sums with one engine more
 sums : (c : tie.After-four-with Inv-loop μ-loop) → let i = body c in let a = entry (i .before) .args in let l = i .before .loop in
-    Sums (a .bytes .now) (a .number) (a .limit) (N c) (getD (i .before .before .put-four .last .0) 0 0) (l .sum + Y c) (l .squares + Y c * Y c)
-    (l .any || not (eqb (c .before .before .cause-of .result) 0))
+    Sums (widthIs (a .size)) (a .bytes .now) (a .number) (a .limit) (N c) (getD (i .before .before .put-four .last .0) 0 0) (l .sum + Y c) (l .squares + Y c * Y c)
+    (l .any || not (eqb (c .before .before .cause-at .result) 0))
 unfolding entry body
 sums c =
     let i = body c in
     let t = i .loop-test .taken in
     sums-more (entry (i .before) .pre .0 .column) (i .before .loop .n) t (i .before .loop .inv .3)
-    (c .before .before .cause-of .ensures .0 ∙ ap cause (c .before .before .before .record-at .ensures)) (c .four-with .ensures .each _ refl t)
+    (c .before .before .cause-at .ensures .0) (c .four-with .ensures .each _ refl t)
 
 fits : (c : tie.After-four-with Inv-loop μ-loop) → let l = body c .before .loop in let rows = entry (body c .before) .args .rows in
     (l .sum + Y c ≤ 32 * highest) × (l .squares + Y c * Y c ≤ 32 * (highest * highest)) × (N c ≤ rows) × (rows ≤ 32)
@@ -67,8 +68,8 @@ fits c =
 
 -- what the row makes of the column, where it is looked at and where not
 made : (c : tie.After-looks Inv-loop μ-loop) → let f = c .before in let a = entry (body f .before) .args in
-    columnIs (a .plan) (a .bytes .now) (a .number) (a .limit) (a .deviation) (N f)
-    ≡ cond (c .looks .result) (decidedAt (N f) (says (a .plan) (a .bytes .now) (a .number) (a .limit) (a .deviation) (N f))) isOpen
+    columnIs (widthIs (a .size)) (a .plan) (a .bytes .now) (a .number) (a .limit) (a .deviation) (N f)
+    ≡ cond (c .looks .result) (decidedAt (N f) (says (widthIs (a .size)) (a .plan) (a .bytes .now) (a .number) (a .limit) (a .deviation) (N f))) isOpen
 unfolding entry body
 made c =
     let f = c .before in
@@ -76,31 +77,31 @@ made c =
     let l = i .before .loop in
     let t = i .loop-test .taken in
     row-more (entry (i .before) .pre .0 .column) (l .n) t (l .inv .3)
-    (f .before .before .cause-of .ensures .0 ∙ ap cause (f .before .before .before .record-at .ensures)) (f .four-with .ensures .each _ refl t)
+    (f .before .before .cause-at .ensures .0) (f .four-with .ensures .each _ refl t)
     (l .inv .2) (c .looks .ensures)
 
 -- what the row decides
 told : (c : tie.After-row Inv-loop μ-loop) {s : Row} → c .row .result ≡ s → let f = c .before .before .before in let a = entry (body f .before) .args in
-    Tells (a .plan) (a .bytes .now) (a .number) (a .limit) (a .deviation) (N f) (a .rows) s
+    Tells (widthIs (a .size)) (a .plan) (a .bytes .now) (a .number) (a .limit) (a .deviation) (N f) (a .rows) s
 unfolding entry body
 told c e =
     let k = c .before in
     let f = k .before .before in
     let a = entry (body f .before) .args in
-    tells (a .plan) (a .bytes .now) (a .number) (a .limit) (a .deviation) (N f) (a .rows) (omega (arith, body f .loop-test .taken))
+    tells (widthIs (a .size)) (a .plan) (a .bytes .now) (a .number) (a .limit) (a .deviation) (N f) (a .rows) (omega (arith, body f .loop-test .taken))
     (rw (k .if2 .taken) at (made (k .before)) ∙ ap (λ r. decidedAt (N f) r) (sym (c .row .ensures _ _ (sums f .sums)))) e
 
 returns : tie.Need-returns Inv-loop μ-loop
 returns c =
     let a = c .before .before .args in
-    record { declared = refl; decides = sym (early-open (a .plan) (a .bytes .now) (a .number) (a .limit) (a .deviation) _ (c .if1 .taken)) }
+    record { declared = refl; decides = sym (early-open (widthIs (a .size)) (a .plan) (a .bytes .now) (a .number) (a .limit) (a .deviation) _ (c .if1 .taken)) }
 
 loop-holds : tie.Need-loop-holds Inv-loop μ-loop
 loop-holds c =
     let a = c .before .before .before .before .args in (
       omega arith,
-      place-is _ _ _ _ (a .limit) 0 0 refl (λ k z. absurd (omega arith)) (c .put-four .ensures),
-      column-none (a .plan) (a .bytes .now) (a .number) (a .limit) (a .deviation),
+      place-is _ _ _ _ _ (a .limit) 0 0 refl (λ k z. absurd (omega arith)) (c .put-four .ensures),
+      column-none (widthIs (a .size)) (a .plan) (a .bytes .now) (a .number) (a .limit) (a .deviation),
       record { sums = record { count = refl; sumIs = refl; squaresIs = refl; levelIs = level-is c }; someIs = refl },
     )
 
@@ -144,9 +145,8 @@ column-spec =
     (λ c. omega (arith, level-is c, g-fits (c .before .before .before .before .args .limit)))
     loop-holds
     (λ c. omega (arith, measured-range (entry (c .before) .pre .0 .column) .few, c .loop-test .taken))
-    (λ c κs. let m = measured-range (entry (c .before) .pre .0 .column) .inside in let t = c .loop-test .taken in search needs)
-    (λ c κs. search needs)
-    (λ c κs. let i = c .before .before .before in record { last = i .before .loop .inv .1; all = measured-range (entry (i .before) .pre .0 .column); some = i .loop-test .taken })
+    (λ c κs. record { inside = record-inside _ _ _ _ (measured-range (entry (c .before) .pre .0 .column) .inside) (omega (arith, c .loop-test .taken)) })
+    (λ c κs. let i = c .before .before in record { last = i .before .loop .inv .1; all = measured-range (entry (i .before) .pre .0 .column); some = i .loop-test .taken })
     (λ c. omega (arith, fits c))
     (λ c. search needs) (λ c. omega arith)
     (λ c. omega (arith, fits c)) (λ c. omega (arith, fits c)) (λ c. omega (arith, fits c)) (λ c. omega (arith, fits c))
@@ -160,4 +160,4 @@ column-spec =
     (λ c. told (c .before .before) (c .enum-told3 .given .1))
     (λ c. let t = body (c .before .before) .loop-test .taken in omega arith)
     loop-again-2
-    (λ c. let l = c .before .loop .inv in none-tells _ _ _ _ _ (l .0) (c .loop-test .left) (l .2)))
+    (λ c. let l = c .before .loop .inv in none-tells _ _ _ _ _ _ (l .0) (c .loop-test .left) (l .2)))

@@ -9,5 +9,6 @@ unfolding grossBy
 is-gross-spec =
     tie.close
     (tie.spec
-    (λ c κs. search needs) (λ c κs. search needs) (λ c κs. search needs) (λ c κs. search needs)
-    (λ c. rw (c .exceeds4 .ensures, c .before .exceeds3 .ensures, c .before .before .exceeds2 .ensures, c .before .before .before .exceeds .ensures) refl))
+    (λ c κs. search needs) (λ c κs. search needs) (λ c κs. search needs) (λ c κs. search needs) (λ c κs. search needs)
+    (λ c. let four = c .before in
+    rw (c .exceeds-behind .ensures, four .exceeds4 .ensures, four .before .exceeds3 .ensures, four .before .before .exceeds2 .ensures, four .before .before .before .exceeds .ensures) refl))

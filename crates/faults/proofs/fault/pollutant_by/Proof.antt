@@ -9,5 +9,5 @@ unfolding pollutantBy
 pollutant-by-spec =
     tie.close
     (tie.spec
-    (λ c. search chains depth 12) (λ c. search chains depth 12) (λ c. search chains depth 12)
-    (λ c. search chains depth 12) (λ c. search chains depth 12) (λ c. search chains depth 12) (λ c. search chains depth 12))
+    (λ c. search chains depth 12) (λ c. search chains depth 12) (λ c. search chains depth 12) (λ c. search chains depth 12)
+    (λ c. search chains depth 12) (λ c. search chains depth 12) (λ c. search chains depth 12))

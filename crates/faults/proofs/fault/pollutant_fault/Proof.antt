@@ -8,13 +8,15 @@ returns : tie.Need-returns
 unfolding pollutantFault
 returns c =
     let p = c .before .before .before in
-    let u = p .before .before in
+    let u = p .before .before .before in
+    let v = u .before in
     rw (c .pollutant-by .ensures, c .before .deviation-of .ensures, c .before .before .limit-of .ensures, p .plan-of .ensures .0)
-    (rw (p .before .number-of .ensures .0, u .u32-at2 .ensures, u .before .u32-at .ensures, u .before .before .byte-at .ensures .0) refl)
+    (rw (p .before .number-of .ensures .0, p .before .before .pollutants .ensures, u .unused-behind .ensures)
+    (rw (v .u32-at2 .ensures, v .before .u32-at .ensures, v .before .before .byte-at .ensures .0) refl))
 
 pub pollutant-fault-spec : {M : Type 1} → statement M
 pollutant-fault-spec =
     tie.close
     (tie.spec
     (λ c κs. search needs) (λ c κs. search needs) (λ c κs. search needs) (λ c κs. search needs) (λ c κs. search needs)
-    (λ c κs. search needs) (λ c κs. search needs) (λ c κs. search needs) returns)
+    (λ c κs. search needs) (λ c κs. search needs) (λ c κs. search needs) (λ c κs. search needs) (λ c κs. search needs) returns)

@@ -1,4 +1,4 @@
--- `left` hands the slice and the number on to `left_at`.
+-- `left` hands size, slice and number on to `left_at`.
 use Rattle.arithmetic.proofs.Basics.{refl}
 use mir.Syntax.{tyInt, w64}
 use contract.Running.{givenOf}

@@ -1,4 +1,4 @@
--- `read` hands the slice and the number on to `step_at`.
+-- `read` hands size, slice and number on to `step_at`.
 use Rattle.arithmetic.proofs.Basics.{refl}
 use contract.Running.{givenOf}
 use denote.Enum.Laws as EL

@@ -1,4 +1,4 @@
--- Each of the four numbers is the definition's.
+-- Each of the six numbers is the definition's.
 use Rattle.arithmetic.proofs.Basics.{refl, needs}
 use Rattle.record.specs.Quantities.{quantitiesWith}
 use Rattle.record.proofs.Quantities.with.Statement.{statement}
@@ -9,5 +9,6 @@ unfolding quantitiesWith
 with-spec =
     tie.close
     (tie.spec
-    (λ c κs. search needs) (λ c κs. search needs) (λ c κs. search needs) (λ c κs. search needs)
-    (λ c. rw (c .chosen4 .ensures, c .before .chosen3 .ensures, c .before .before .chosen2 .ensures, c .before .before .before .chosen .ensures) refl))
+    (λ c κs. search needs) (λ c κs. search needs) (λ c κs. search needs) (λ c κs. search needs) (λ c κs. search needs) (λ c κs. search needs)
+    (λ c. let four = c .before .before in
+    rw (c .chosen6 .ensures, c .before .chosen5 .ensures, four .chosen4 .ensures, four .before .chosen3 .ensures, four .before .before .chosen2 .ensures, four .before .before .before .chosen .ensures) refl))

@@ -2,22 +2,23 @@
 use Rattle.arithmetic.proofs.Basics.{_-_, arith, _≡_, needs}
 use Rattle.rules.specs.Sheet.{Pollutant, pollutant}
 use Rattle.accepted.specs.Sheets.{recordAt}
-use Rattle.accepted.proofs.Sheets.{few, inside}
+use Rattle.accepted.proofs.Sheets.{few, inside, record-inside}
+use Rattle.record.specs.Sizes.{widthIs}
 use Rattle.series.proofs.Looping.{Opened, Kept, sheet, kept-none, column-range, kept-more}
 use Rattle.series.proofs.Judging.{gate-range, engines-few, gate-fits, judged-so}
 use Rattle.series.proofs.tally.judgement_of.Statement.{statement}
 use Rattle.series.proofs.tally.judgement_of.Tie as tie
 
 abbrev Inv-loop : tie.InvT-loop
-Inv-loop bytes sheet plan start gate t₀ k₀ t k = Kept bytes start plan gate k t
+Inv-loop size bytes sheet plan start gate t₀ k₀ t k = Kept size bytes start plan gate k t
 
 abbrev μ-loop : tie.MeasureT-loop
-μ-loop bytes sheet plan start gate t₀ k₀ t k = start - k
+μ-loop size bytes sheet plan start gate t₀ k₀ t k = start - k
 
 abbrev start : tie.After-gate-of Inv-loop μ-loop → tie.Start Inv-loop μ-loop
 start c = c .before .before .before .before .before
 
-opened : (c : tie.After-gate-of Inv-loop μ-loop) → let a = start c .args in Opened (a .bytes .now) (a .sheet) (c .before .before .before .of .result) (c .gate-of .result)
+opened : (c : tie.After-gate-of Inv-loop μ-loop) → let a = start c .args in Opened (a .size) (a .bytes .now) (a .sheet) (c .before .before .before .of .result) (c .gate-of .result)
 opened c = record { valid = start c .pre; planned = c .before .before .before .of .ensures; gated = c .gate-of .ensures }
 
 abbrev gate-before : tie.In-loop Inv-loop μ-loop → tie.After-gate-of Inv-loop μ-loop
@@ -26,7 +27,7 @@ gate-before c = c .before .before .before .before
 -- the pollutant of the record that the turn looks at
 pollutant-read : (c : tie.After-deviation-of Inv-loop μ-loop) → let i = c .before .before .before .before in
     _≡_ {A = Pollutant} (record { number = c .before .before .number-of .result; limit = c .before .limit-of .result; deviation = c .deviation-of .result })
-    (pollutant (recordAt (start (gate-before i) .args .bytes .now) (i .before .loop .k)))
+    (pollutant (recordAt (widthIs (start (gate-before i) .args .size)) (start (gate-before i) .args .bytes .now) (i .before .loop .k)))
 unfolding pollutant
 pollutant-read c =
     let n = c .before .before in
@@ -64,7 +65,7 @@ judgement-of-spec =
     (λ c κs. let o = c .before .before in gate-range (o .before .before .pre) (o .of .ensures))
     (λ c κs. search needs) (λ c κs. search needs)
     (λ c. kept-none (opened (c .before .before)) (c .before .rows .ensures) (c .none .ensures))
-    (λ c κs. let t = c .loop-test .taken in record { inside = omega (arith, inside (sheet (opened (gate-before c)))) })
+    (λ c κs. let t = c .loop-test .taken in record { inside = record-inside _ _ _ _ (inside (sheet (opened (gate-before c)))) (omega arith) })
     (λ c κs. search needs) (λ c κs. search needs) (λ c κs. search needs) (λ c. search needs) column-requires
     (λ c κs. search needs) add-k
     (λ c. let t = c .before .before .before .before .before .before .before .loop-test .taken in omega arith)

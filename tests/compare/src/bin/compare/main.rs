@@ -3,8 +3,9 @@
 mod library;
 mod mutants;
 
-use compare::cases::{reported, visit_cases, visit_empty, Operations, Second, Sizes};
-use compare::corpus::{Corpus, Origin, Scale, FULL, QUICK};
+use compare::cases::{reported, visit_cases, visit_empty, visit_no_sizes};
+use compare::cases::{Lengths, Operations, Second, NO_SIZES};
+use compare::corpus::{Corpus, LineSeries, Origin, Scale, FULL, QUICK};
 use compare::draft::LARGEST;
 use compare::memory::{Boxes, Edge, Pages};
 use compare::paper::{Chosen, Paper};
@@ -12,11 +13,11 @@ use compare::program;
 use compare::promises;
 use compare::refusals::WAYS;
 use compare::seen::{print_exact, print_pairs, Seen};
-use compare::sweeps::{visit_logarithms, Sweep};
+use compare::sweeps::{cause_sheets, logarithm_trials};
 use compare::tally::Tally;
-use library::{LIBRARY, WITH_NULL};
+use library::{Library, LIBRARY};
 use random::Random;
-use second::{check, Document01};
+use second::{check, Document01, Refusal, SIZES};
 use std::ops::ControlFlow;
 use std::process::ExitCode;
 
@@ -34,21 +35,28 @@ fn main() -> ExitCode {
 /// The sheets, then one part of `step` of the sweeps.
 fn compare(scale: Scale, step: usize) -> ExitCode {
     let mut tally = Tally::default();
-    let corpus = Corpus::new(scale);
-    compare_corpus(&corpus, &mut tally);
-    compare_chosen(&corpus, &mut tally);
-    print_pairs(&corpus, &mut tally);
-    if scale.exact {
-        print_exact(&corpus, &mut tally);
+    let series = LineSeries::find(scale);
+    series.paper.compare_with_printed(&mut tally);
+    for size in SIZES {
+        println!("records of {size} bytes:");
+        let corpus = Corpus::new(size, &series, scale);
+        compare_corpus(&corpus, &mut tally);
+        compare_chosen(&corpus, &mut tally);
+        compare_empty(size, &mut tally);
+        sweep_logarithms(&series.paper, size, step, &mut tally);
+        sweep_causes(size, step, &mut tally);
+        promises::keep(size, scale.promises, &mut tally);
     }
-    compare_empty(&mut tally);
-    sweep_logarithms(&corpus.paper, step, &mut tally);
-    sweep_causes(&corpus.paper, step, &mut tally);
-    promises::keep(scale.promises, &mut tally);
+    print_pairs(&series, &mut tally);
+    if scale.exact {
+        print_exact(&series, &mut tally);
+    }
+    compare_no_sizes(&mut tally);
     tally.finish()
 }
 
 fn compare_corpus(corpus: &Corpus, tally: &mut Tally) {
+    let size = corpus.size;
     let mut pages = Pages::default();
     let mut random = Random::new(0xA11);
     let mut seen = Seen::default();
@@ -57,59 +65,67 @@ fn compare_corpus(corpus: &Corpus, tally: &mut Tally) {
     let mut calls = 0u64;
     let _ = corpus.visit(&mut |origin, sheet| {
         sheets += 1;
-        note_way(origin, sheet, &mut ways, tally);
-        let edge = if sheets.is_multiple_of(8) {
-            Edge::Start
-        } else {
-            Edge::End
-        };
-        visit_cases(sheet, sizes(origin, sheets), &mut random, &mut |case| {
+        note_damage(size, origin, sheet, &mut ways, tally);
+        let edge = Edge::of_call(sheets);
+        let lengths = lengths(origin, sheets);
+        visit_cases(size, sheet, lengths, &mut random, &mut |case| {
             let second = case.run(&SECOND, &mut pages, edge);
             seen.note(case, &second);
-            let library = case.run(&LIBRARY, &mut pages, edge);
-            calls += 1;
             let what = || format!("{case}, {origin}");
-            tally.compare(sheet, what, library, second.clone());
+            for library in Library::of(size) {
+                calls += 1;
+                let answer = case.run(library, &mut pages, edge);
+                tally.compare(sheet, what, answer, second.clone());
+            }
             if sheets % 8 == 1 {
-                let library = case.run(&LIBRARY, &mut Boxes, edge);
-                tally.compare(sheet, what, library, second);
+                let answer = case.run(&LIBRARY, &mut Boxes, edge);
+                tally.compare(sheet, what, answer, second);
             }
             ControlFlow::Continue(())
         })
     });
     println!("{sheets} sheets, {calls} calls of report and append:");
-    seen.print(tally);
-    print_ways(&ways, tally);
+    seen.print(size, tally);
+    print_ways(size, &ways, tally);
 }
 
-/// Every size for the longest sheets and for some of the others.
-fn sizes(origin: Origin, sheets: usize) -> Sizes {
-    let all = match origin {
-        Origin::Longest => true,
-        Origin::Damage(_) => sheets.is_multiple_of(5),
-        _ => sheets.is_multiple_of(500),
+/// Every length for some of the sheets, more often for those that are refused or the longest.
+fn lengths(origin: Origin, sheets: usize) -> Lengths {
+    let one_in = match origin {
+        Origin::Longest | Origin::OtherSize => 8,
+        Origin::Damage(_) => 40,
+        _ => 1000,
     };
-    if all {
-        Sizes::All
+    if sheets.is_multiple_of(one_in) {
+        Lengths::All
     } else {
-        Sizes::Few
+        Lengths::Few
     }
 }
 
-/// A sheet damaged in one way has to be refused with that way's number.
-fn note_way(origin: Origin, sheet: &[u8], ways: &mut [u64], tally: &mut Tally) {
-    if let Origin::Damage(way) = origin {
-        let refusal = check(&Document01, sheet).err();
-        let number = refusal.map(|refusal| refusal.number);
-        tally.expect(number == Some(WAYS[way].refusal), sheet, WAYS[way].name);
-        ways[way] += 1;
+/// A sheet damaged in one way has to be refused with that way's number, and one with a byte that
+/// must be zero with 12 at its record.
+fn note_damage(size: usize, origin: Origin, sheet: &[u8], ways: &mut [u64], tally: &mut Tally) {
+    let refusal = || check(&Document01, size, sheet).err();
+    match origin {
+        Origin::Damage(way) => {
+            let number = refusal().map(|refusal| refusal.number);
+            tally.expect(number == Some(WAYS[way].refusal), sheet, WAYS[way].name);
+            ways[way] += 1;
+        }
+        Origin::Unused(record) => {
+            let (number, record) = (12, record as u8);
+            let expected = Refusal { number, record };
+            tally.expect(refusal() == Some(expected), sheet, "a byte without a field");
+        }
+        _ => {}
     }
 }
 
-fn print_ways(counts: &[u64], tally: &mut Tally) {
+fn print_ways(size: usize, counts: &[u64], tally: &mut Tally) {
     for (way, &count) in WAYS.iter().zip(counts) {
         if count == 0 {
-            tally.gap(way.name);
+            tally.gap(&format!("{}, in records of {size} bytes", way.name));
         }
     }
     println!("  {} ways to the refusals 1 to 12, each taken", WAYS.len());
@@ -117,50 +133,54 @@ fn print_ways(counts: &[u64], tally: &mut Tally) {
 
 /// The chosen sheets get the reports asked for, from both; and both part every pair.
 fn compare_chosen(corpus: &Corpus, tally: &mut Tally) {
-    corpus.paper.compare_with_printed(tally);
+    let size = corpus.size;
     for (origin, chosen) in corpus.chosen() {
-        compare_asked(chosen, &origin.to_string(), tally);
+        compare_asked(size, chosen, &origin.to_string(), tally);
     }
-    for pair in &corpus.pairs {
-        let [one, other] = pair.sheets.each_ref().map(|chosen| &chosen.sheet);
+    for (_, [one, other]) in &corpus.pairs {
         for operations in [&LIBRARY as &dyn Operations, &SECOND] {
-            let parted = reported(operations, one) != reported(operations, other);
-            tally.expect(parted, one, "the sheets of a pair are parted");
+            let [one_report, other_report] =
+                [one, other].map(|chosen| reported(operations, size, &chosen.sheet));
+            let parted = one_report != other_report;
+            tally.expect(parted, &one.sheet, "the sheets of a pair are parted");
         }
     }
 }
 
 /// The library's whole report against the second implementation's, and against the one asked for.
-fn compare_asked(chosen: &Chosen, origin: &str, tally: &mut Tally) {
+fn compare_asked(size: usize, chosen: &Chosen, origin: &str, tally: &mut Tally) {
     let Chosen { sheet, report } = chosen;
-    let (library, second) = (reported(&LIBRARY, sheet), reported(&SECOND, sheet));
-    let against_second = || format!("report, {origin}");
+    let [library, second] =
+        [&LIBRARY as &dyn Operations, &SECOND].map(|operations| reported(operations, size, sheet));
+    let against_second = || format!("report by {size}, {origin}");
     tally.compare(sheet, against_second, library, second);
-    let against_asked = || format!("report and the one asked for (as second), {origin}");
+    let against_asked = || format!("report by {size} and the one asked for (as second), {origin}");
     tally.compare(sheet, against_asked, library, (0, *report));
 }
 
 /// NULL is lent with length 0, and has to be taken like an empty slice.
-fn compare_empty(tally: &mut Tally) {
+fn compare_empty(size: usize, tally: &mut Tally) {
     let mut calls = 0;
-    let _ = visit_empty(&mut |case| {
+    let _ = visit_empty(size, &mut |case| {
         let second = case.run(&SECOND, &mut Boxes, Edge::End);
-        for library in [LIBRARY, WITH_NULL] {
-            let what = || format!("{case}, NULL for what is empty");
-            let answer = case.run(&library, &mut Boxes, Edge::End);
-            tally.compare(&[], what, answer, second.clone());
+        for library in Library::of(size) {
+            for library in [*library, library.with_null()] {
+                let what = || format!("{case}, NULL for what is empty");
+                let answer = case.run(&library, &mut Boxes, Edge::End);
+                tally.compare(&[], what, answer, second.clone());
+                calls += 1;
+            }
         }
-        calls += 1;
         ControlFlow::Continue(())
     });
     println!("{calls} calls with NULL for what is empty");
 }
 
-fn sweep_logarithms(paper: &Paper, step: usize, tally: &mut Tally) {
+fn sweep_logarithms(paper: &Paper, size: usize, step: usize, tally: &mut Tally) {
     let mut pairs = 0u64;
     let mut limits = vec![false; LARGEST as usize + 1];
     let mut measurements = limits.clone();
-    let _ = visit_logarithms(paper, step, &mut |trial| {
+    for trial in logarithm_trials(paper, size, step) {
         pairs += 1;
         for m in trial.limits {
             limits[m as usize] = true;
@@ -169,10 +189,9 @@ fn sweep_logarithms(paper: &Paper, step: usize, tally: &mut Tally) {
             measurements[m as usize] = true;
         }
         for chosen in &trial.sheets {
-            compare_asked(chosen, "the sweep of logarithms", tally);
+            compare_asked(size, chosen, "the sweep of logarithms", tally);
         }
-        ControlFlow::Continue(())
-    });
+    }
     let [limits, measurements] =
         [limits, measurements].map(|seen| seen.into_iter().filter(|&seen| seen).count());
     if step == 1 && [limits, measurements] != [LARGEST as usize; 2] {
@@ -183,12 +202,30 @@ fn sweep_logarithms(paper: &Paper, step: usize, tally: &mut Tally) {
     );
 }
 
-fn sweep_causes(paper: &Paper, step: usize, tally: &mut Tally) {
+fn sweep_causes(size: usize, step: usize, tally: &mut Tally) {
     let mut sheets = 0;
-    let _ = Sweep::Causes.visit(paper, step, &mut |chosen| {
+    for chosen in cause_sheets(size, step) {
         sheets += 1;
-        compare_asked(chosen, "the sweep of causes", tally);
+        compare_asked(size, &chosen, "the sweep of causes", tally);
+    }
+    println!("{sheets} sheets: reports with equal causes, and with causes that differ in one bit");
+}
+
+/// F-10: "30, size not 20 or 28, before every other", and nothing is written.
+fn compare_no_sizes(tally: &mut Tally) {
+    let mut pages = Pages::default();
+    let mut calls = 0;
+    let _ = visit_no_sizes(&mut |case| {
+        let second = case.run(&SECOND, &mut Boxes, Edge::End);
+        tally.expect(second == case.refused(30), &[], "30 before every other");
+        for edge in [Edge::Start, Edge::End] {
+            let library = case.run(&LIBRARY, &mut pages, edge);
+            tally.compare(&[], || case.to_string(), library, second.clone());
+            calls += 1;
+        }
+        let library = case.run(&LIBRARY.with_null(), &mut Boxes, Edge::End);
+        tally.compare(&[], || case.to_string(), library, second);
         ControlFlow::Continue(())
     });
-    println!("{sheets} sheets: reports with equal causes, and with causes that differ in one bit");
+    println!("{calls} calls by {} sizes that are none", NO_SIZES.len());
 }

@@ -1,48 +1,67 @@
 //! Shows that the comparison notices each wrong variant of the second implementation.
 
+use crate::lengths;
 use crate::library::LIBRARY;
-use crate::sizes;
-use compare::cases::{reported, visit_cases, Case, Second};
-use compare::corpus::{Corpus, Scale, FULL};
+use compare::cases::{reported, visit_cases, visit_no_sizes, Case, Second};
+use compare::corpus::{Corpus, LineSeries, Scale, FULL};
 use compare::memory::{Boxes, Edge};
-use compare::paper::Chosen;
+use compare::paper::{Chosen, Paper};
 use compare::program::Mutants;
-use compare::sweeps::Sweep;
+use compare::sweeps::{cause_sheets, logarithm_trials, logarithm_trials_with, LogarithmTrial};
 use random::Random;
 use second::variants;
-use second::Document;
+use second::{Document, SIZES};
 use std::ops::ControlFlow;
 use std::process::ExitCode;
 
+/// Those of document 01, and each number among many alike, are to be noticed in either size.
 pub fn catch() -> ExitCode {
-    let corpus = Corpus::new(Scale {
+    let scale = Scale {
         random_sheets: 20_000,
         ..FULL
-    });
+    };
+    let series = LineSeries::find(scale);
+    let corpora = SIZES.map(|size| Corpus::new(size, &series, scale));
     let mut mutants = Mutants::default();
     for wrong in variants::report_and_append() {
-        mutants.note(&wrong, caught_by(&corpus, wrong.reading.as_ref()));
+        let reading = wrong.reading.as_ref();
+        let caught_by = corpora
+            .each_ref()
+            .map(|corpus| caught_by(corpus, &series.paper, reading));
+        mutants.note_both(&wrong, caught_by);
     }
-    let in_corpus = |wrong: &dyn Document| is_in_corpus(&corpus, wrong);
-    mutants.try_families(variants::decision_numbers(), in_corpus);
-    mutants.try_families(variants::variances(), in_corpus);
-    mutants.try_families(variants::sixteen_steps_under_one_plan(), in_corpus);
-    let in_sweep = |sweep| {
-        let corpus = &corpus;
-        move |wrong: &dyn Document| is_in_sweep(corpus, sweep, wrong)
-    };
-    mutants.try_families(variants::logarithms(), in_sweep(Sweep::Logarithms));
-    mutants.try_families(variants::causes(), in_sweep(Sweep::Causes));
+    for wrong in variants::sizes() {
+        let reading = wrong.reading.as_ref();
+        let mut caught_by = corpora
+            .iter()
+            .rev()
+            .filter_map(|corpus| in_corpus(corpus, reading));
+        mutants.note(&wrong, in_no_sizes(reading).or_else(|| caught_by.next()));
+    }
+    let in_corpora =
+        |plan, wrong: &dyn Document| corpora.iter().all(|corpus| is_in(corpus, plan, wrong));
+    mutants.try_families(variants::decision_numbers(), in_corpora);
+    mutants.try_families(variants::variances(), in_corpora);
+    mutants.try_families(variants::sixteen_steps_under_one_plan(), in_corpora);
+    for (m, wrong) in variants::logarithms() {
+        let caught_by = SIZES.map(|size| {
+            let trials = logarithm_trials_with(&series.paper, size, m);
+            in_logarithms(size, trials, wrong.reading.as_ref())
+        });
+        mutants.note_both(&wrong, caught_by);
+    }
+    let in_causes =
+        |_, wrong: &dyn Document| SIZES.into_iter().all(|size| is_in_causes(size, wrong));
+    mutants.try_families(variants::causes(), in_causes);
     mutants.finish()
 }
 
 /// The corpus first, and what it lets through goes through the sweeps.
-fn caught_by(corpus: &Corpus, wrong: &dyn Document) -> Option<String> {
-    in_corpus(corpus, wrong).or_else(|| {
-        let mut sweeps = [Sweep::Logarithms, Sweep::Causes].into_iter();
-        let sweep = sweeps.find(|&sweep| is_in_sweep(corpus, sweep, wrong))?;
-        Some(format!("report (sweep of {sweep:?})"))
-    })
+fn caught_by(corpus: &Corpus, paper: &Paper, wrong: &dyn Document) -> Option<String> {
+    let size = corpus.size;
+    in_corpus(corpus, wrong)
+        .or_else(|| in_logarithms(size, logarithm_trials(paper, size, 1), wrong))
+        .or_else(|| is_in_causes(size, wrong).then(|| "the sweep of causes".to_string()))
 }
 
 /// The first case in which the library and a wrong variant differ.
@@ -52,9 +71,9 @@ fn in_corpus(corpus: &Corpus, wrong: &dyn Document) -> Option<String> {
     let mut caught_by = None;
     let _ = corpus.visit(&mut |origin, sheet| {
         sheets += 1;
-        visit_cases(sheet, sizes(origin, sheets), &mut random, &mut |case| {
-            let right = case.run(&LIBRARY, &mut Boxes, Edge::End);
-            if right == case.run(&Second(wrong), &mut Boxes, Edge::End) {
+        let lengths = lengths(origin, sheets);
+        visit_cases(corpus.size, sheet, lengths, &mut random, &mut |case| {
+            if alike(case, wrong) {
                 return ControlFlow::Continue(());
             }
             caught_by = Some(format!("{} ({origin})", name(case)));
@@ -64,31 +83,62 @@ fn in_corpus(corpus: &Corpus, wrong: &dyn Document) -> Option<String> {
     caught_by
 }
 
-fn name(case: &Case) -> &'static str {
-    match case {
-        Case::Report { .. } => "report",
-        Case::Append { .. } => "append",
-    }
-}
-
-/// Whether a report of the corpus shows it.
-fn is_in_corpus(corpus: &Corpus, wrong: &dyn Document) -> bool {
-    corpus
-        .visit(&mut |_, sheet| differ(wrong, sheet))
-        .is_break()
-}
-
-/// Whether a report of a sweep shows it.
-fn is_in_sweep(corpus: &Corpus, sweep: Sweep, wrong: &dyn Document) -> bool {
-    let differ = &mut |chosen: &Chosen| differ(wrong, &chosen.sheet);
-    sweep.visit(&corpus.paper, 1, differ).is_break()
-}
-
-/// Goes on until the reports differ.
-fn differ(wrong: &dyn Document, sheet: &[u8]) -> ControlFlow<()> {
-    if reported(&LIBRARY, sheet) == reported(&Second(wrong), sheet) {
-        ControlFlow::Continue(())
-    } else {
+/// The first case by a size that is none.
+fn in_no_sizes(wrong: &dyn Document) -> Option<String> {
+    let mut caught_by = None;
+    let _ = visit_no_sizes(&mut |case| {
+        if alike(case, wrong) {
+            return ControlFlow::Continue(());
+        }
+        caught_by = Some(case.to_string());
         ControlFlow::Break(())
+    });
+    caught_by
+}
+
+/// The library and a wrong variant answer alike.
+fn alike(case: &Case, wrong: &dyn Document) -> bool {
+    let right = case.run(&LIBRARY, &mut Boxes, Edge::End);
+    right == case.run(&Second(wrong), &mut Boxes, Edge::End)
+}
+
+fn name(case: &Case) -> String {
+    match case {
+        Case::Report { size, .. } => format!("report by {size}"),
+        Case::Append { size, .. } => format!("append by {size}"),
     }
+}
+
+/// Whether a report of the corpus under this plan shows it.
+fn is_in(corpus: &Corpus, plan: u8, wrong: &dyn Document) -> bool {
+    let visited = corpus.visit(&mut |_, sheet| {
+        if sheet.get(2) == Some(&plan) && differ(corpus.size, wrong, sheet) {
+            ControlFlow::Break(())
+        } else {
+            ControlFlow::Continue(())
+        }
+    });
+    visited.is_break()
+}
+
+/// Whether a report of these trials shows it.
+fn in_logarithms(
+    size: usize,
+    trials: impl Iterator<Item = LogarithmTrial>,
+    wrong: &dyn Document,
+) -> Option<String> {
+    let mut sheets = trials.flat_map(|trial| trial.sheets);
+    let found = sheets.any(|chosen| differ(size, wrong, &chosen.sheet));
+    found.then(|| format!("report by {size} (sweep of logarithms)"))
+}
+
+/// Whether a report of the sweep of causes shows it.
+fn is_in_causes(size: usize, wrong: &dyn Document) -> bool {
+    let differs = |chosen: Chosen| differ(size, wrong, &chosen.sheet);
+    cause_sheets(size, 1).any(differs)
+}
+
+/// The reports differ.
+fn differ(size: usize, wrong: &dyn Document, sheet: &[u8]) -> bool {
+    reported(&LIBRARY, size, sheet) != reported(&Second(wrong), size, sheet)
 }

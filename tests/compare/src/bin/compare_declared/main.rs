@@ -25,17 +25,13 @@ fn compare(scale: &Scale) -> ExitCode {
     let mut tally = Tally::default();
     let mut seen = Seen::default();
     let mut pages = Pages::default();
-    let mut calls = 0u64;
+    let mut calls = 0usize;
     let _ = visit_declared(scale, &mut |declared, tests| {
         calls += 1;
         let second = answer_of(&Document01, declared, tests);
         seen.note(declared, tests, second);
         let what = || format!("the declared value {declared} with the tests {tests:?}");
-        let edge = if calls.is_multiple_of(8) {
-            Edge::Start
-        } else {
-            Edge::End
-        };
+        let edge = Edge::of_call(calls);
         let library = lent_answer(Empty::Slice, declared, tests, &mut pages, edge);
         tally.compare(&[], what, library, second);
         if calls % 8 == 1 {

@@ -4,15 +4,16 @@
 mod operations;
 
 use compare::bracket::{self, Bracketed, Power};
-use compare::corpus::{Corpus, Scale, FULL, QUICK};
+use compare::cases::{sheets_of_either_size, NO_SIZES};
+use compare::corpus::{Corpus, LineSeries, Scale, FULL, QUICK};
 use compare::draft::LARGEST;
 use compare::memory::{Boxes, Edge, Lender, Pages};
 use compare::program::{self, Mutants};
 use compare::tally::Tally;
-use operations::{answers, step_at, Operations, Second, LIBRARY, LINES, WITH_NULL};
+use operations::{evidence_of, lines_of, step_at, Operations, Second, LIBRARY, LINES, WITH_NULL};
 use random::Random;
-use second::variants;
-use second::{Document01, RECORD};
+use second::variants::{self, Wrong};
+use second::{Document, Document01, FOUR_POLLUTANTS, SIZES};
 use std::ops::ControlFlow;
 use std::process::ExitCode;
 
@@ -41,7 +42,11 @@ fn compare(scale: Scale, step: usize) -> ExitCode {
         compare_whole_powers(closest, &mut tally);
     }
     compare_empty(&mut tally);
-    compare_corpus(&Corpus::new(scale), &mut tally);
+    compare_no_sizes(&mut tally);
+    let series = LineSeries::find(scale);
+    for size in SIZES {
+        compare_corpus(&Corpus::new(size, &series, scale), &mut tally);
+    }
     tally.finish()
 }
 
@@ -93,45 +98,99 @@ const SMALL: [u32; 6] = [1, 2, 3, 5, 7, 1000];
 
 /// NULL is lent with length 0, and has to be taken like an empty slice.
 fn compare_empty(tally: &mut Tally) {
+    let what = || "NULL for what is empty".to_string();
     for library in [LIBRARY, WITH_NULL] {
-        let what = || "NULL for what is empty".to_string();
-        for (sheet, room) in [(&[][..], 0), (&[], LINES), (&[0; RECORD], 0)] {
-            let answers = |operations| answers(operations, sheet, room, &mut Boxes, Edge::End);
-            tally.compare(sheet, what, answers(&library), answers(&SECOND));
+        for (sheet, room) in [(&[][..], 0), (&[], LINES), (&[0; FOUR_POLLUTANTS], 0)] {
+            let lines = |operations| lines_of(operations, sheet, room, &mut Boxes, Edge::End);
+            tally.compare(sheet, what, lines(&library), lines(&SECOND));
         }
-        for k in [0, 1, usize::MAX] {
-            let step = |operations| step_at(operations, &[], k, &mut Boxes, Edge::End);
-            tally.compare(&[], what, step(&library), step(&SECOND));
+        for size in SIZES.into_iter().chain(NO_SIZES) {
+            let evidence = |operations| evidence_of(operations, size, &[], &mut Boxes, Edge::End);
+            tally.compare(&[], what, evidence(&library), evidence(&SECOND));
+            for k in [0, 1, usize::MAX] {
+                let step = |operations| step_at(operations, size, &[], k, &mut Boxes, Edge::End);
+                tally.compare(&[], what, step(&library), step(&SECOND));
+            }
+        }
+    }
+}
+
+/// F-10: "30, size not 20 or 28, before every other", and no record to be read.
+fn compare_no_sizes(tally: &mut Tally) {
+    let mut pages = Pages::default();
+    for sheet in sheets_of_either_size() {
+        for size in NO_SIZES {
+            let refused = SECOND.evidence(size, &sheet) == (0, 30 * 256);
+            tally.expect(refused, &sheet, "30 before every other");
+            compare_evidence(
+                size,
+                &sheet,
+                "sheet of no size",
+                &mut pages,
+                Edge::End,
+                tally,
+            );
+            let numbers = [0, 1, usize::MAX];
+            compare_steps(
+                size,
+                &sheet,
+                &numbers,
+                "sheet of no size",
+                &mut pages,
+                Edge::End,
+                tally,
+            );
         }
     }
 }
 
 fn compare_corpus(corpus: &Corpus, tally: &mut Tally) {
+    let size = corpus.size;
     let mut pages = Pages::default();
     let (mut sheets, mut steps) = (0usize, 0);
     let _ = corpus.visit(&mut |origin, sheet| {
         sheets += 1;
         let origin = origin.to_string();
         let some = sheets.is_multiple_of(8);
-        let edge = if some { Edge::Start } else { Edge::End };
-        let numbers = step_numbers(sheet, some);
+        let edge = Edge::of_call(sheets);
+        let numbers = step_numbers(size, sheet, some);
         steps += numbers.len();
-        compare_answers(sheet, LINES, &origin, &mut pages, edge, tally);
-        compare_steps(sheet, &numbers, &origin, &mut pages, edge, tally);
+        compare_evidence(size, sheet, &origin, &mut pages, edge, tally);
+        compare_steps(size, sheet, &numbers, &origin, &mut pages, edge, tally);
         if some {
-            compare_answers(sheet, LINES, &origin, &mut Boxes, edge, tally);
-            compare_steps(sheet, &numbers, &origin, &mut Boxes, edge, tally);
+            compare_evidence(size, sheet, &origin, &mut Boxes, edge, tally);
+            compare_steps(size, sheet, &numbers, &origin, &mut Boxes, edge, tally);
+        }
+        if size == FOUR_POLLUTANTS {
+            compare_lines(sheet, LINES, &origin, &mut pages, edge, tally);
+        }
+        if size == FOUR_POLLUTANTS && some {
+            compare_lines(sheet, LINES, &origin, &mut Boxes, edge, tally);
             let exact = SECOND.lines(sheet, &mut []);
             for room in [exact - 1, exact] {
-                compare_answers(sheet, room, &origin, &mut pages, Edge::End, tally);
+                compare_lines(sheet, room, &origin, &mut pages, Edge::End, tally);
             }
         }
         ControlFlow::Continue(())
     });
-    println!("{sheets} sheets, each with its evidence and its printed lines, and {steps} steps");
+    println!("{sheets} sheets of {size}-byte records, each with its evidence, and {steps} steps");
 }
 
-fn compare_answers(
+fn compare_evidence(
+    size: usize,
+    sheet: &[u8],
+    origin: &str,
+    lender: &mut impl Lender,
+    edge: Edge,
+    tally: &mut Tally,
+) {
+    let library = evidence_of(&LIBRARY, size, sheet, lender, edge);
+    let second = evidence_of(&SECOND, size, sheet, lender, edge);
+    let what = || format!("evidence by {size} of a {origin}");
+    tally.compare(sheet, what, library, second);
+}
+
+fn compare_lines(
     sheet: &[u8],
     room: usize,
     origin: &str,
@@ -139,25 +198,23 @@ fn compare_answers(
     edge: Edge,
     tally: &mut Tally,
 ) {
-    let library = answers(&LIBRARY, sheet, room, lender, edge);
-    let second = answers(&SECOND, sheet, room, lender, edge);
-    let evidence = || format!("evidence of a {origin}");
-    tally.compare(sheet, evidence, library.0, second.0);
-    let lines = || format!("lines of a {origin} in {room} bytes");
-    tally.compare(sheet, lines, (library.1, library.2), (second.1, second.2));
+    let library = lines_of(&LIBRARY, sheet, room, lender, edge);
+    let second = lines_of(&SECOND, sheet, room, lender, edge);
+    let what = || format!("lines of a {origin} in {room} bytes");
+    tally.compare(sheet, what, library, second);
 }
 
 /// From the first record to one past the end; on some sheets also far behind it.
-fn step_numbers(sheet: &[u8], far: bool) -> Vec<usize> {
-    let mut numbers: Vec<usize> = (0..=sheet.len() / RECORD + 1).collect();
+fn step_numbers(size: usize, sheet: &[u8], far: bool) -> Vec<usize> {
+    let mut numbers: Vec<usize> = (0..=sheet.len() / size + 1).collect();
     if far {
         let most = usize::MAX;
         numbers.extend([
-            38,
+            Document01.most_records(size) + 1,
             1000,
             1 << 32,
-            most / RECORD,
-            most / RECORD + 1,
+            most / size,
+            most / size + 1,
             most - 1,
             most,
         ]);
@@ -166,6 +223,7 @@ fn step_numbers(sheet: &[u8], far: bool) -> Vec<usize> {
 }
 
 fn compare_steps(
+    size: usize,
     sheet: &[u8],
     numbers: &[usize],
     origin: &str,
@@ -174,26 +232,22 @@ fn compare_steps(
     tally: &mut Tally,
 ) {
     for &k in numbers {
-        let library = step_at(&LIBRARY, sheet, k, lender, edge);
-        let second = step_at(&SECOND, sheet, k, lender, edge);
-        tally.compare(sheet, || format!("step {k} of a {origin}"), library, second);
+        let library = step_at(&LIBRARY, size, sheet, k, lender, edge);
+        let second = step_at(&SECOND, size, sheet, k, lender, edge);
+        let what = || format!("step {k} by {size} of a {origin}");
+        tally.compare(sheet, what, library, second);
     }
 }
 
+/// Those of document 01 about sheets are to be noticed in either size.
 fn catch_mutants() -> ExitCode {
-    let corpus = Corpus::new(Scale {
-        random_sheets: 20_000,
-        ..FULL
-    });
     let mut mutants = Mutants::default();
-    for wrong in variants::logarithm_evidence_and_lines() {
-        let second = Second(wrong.reading.as_ref());
-        let caught_by = in_logarithms(&second).or_else(|| in_answers(&corpus, &second));
-        mutants.note(&wrong, caught_by);
+    for wrong in variants::logarithm() {
+        mutants.note(&wrong, in_logarithms(&second(&wrong)));
     }
     let whole_powers = SMALL.map(|m| (m, bracket::whole_power(m).0));
     for wrong in variants::brackets() {
-        let second = Second(wrong.reading.as_ref());
+        let second = second(&wrong);
         let caught_by = in_whole_powers(&whole_powers, &second).zip(in_brackets(&second));
         mutants.note(
             &wrong,
@@ -201,13 +255,49 @@ fn catch_mutants() -> ExitCode {
         );
     }
     for wrong in variants::brackets_of_few() {
-        mutants.note(&wrong, in_brackets(&Second(wrong.reading.as_ref())));
+        mutants.note(&wrong, in_brackets(&second(&wrong)));
+    }
+    catch_mutants_of_sheets(&mut mutants);
+    mutants.finish()
+}
+
+fn second(wrong: &Wrong) -> Second<'_, dyn Document> {
+    Second(wrong.reading.as_ref())
+}
+
+fn catch_mutants_of_sheets(mutants: &mut Mutants) {
+    let scale = Scale {
+        random_sheets: 20_000,
+        ..FULL
+    };
+    let series = LineSeries::find(scale);
+    let corpora = SIZES.map(|size| Corpus::new(size, &series, scale));
+    let both = corpora.each_ref();
+    for wrong in variants::evidence() {
+        mutants.note_both(
+            &wrong,
+            both.map(|corpus| in_evidence(corpus, &second(&wrong))),
+        );
+    }
+    for wrong in variants::lines() {
+        mutants.note(&wrong, in_lines(&corpora[0], &second(&wrong)));
     }
     for wrong in variants::reader() {
-        let caught_by = in_steps(&corpus, &Second(wrong.reading.as_ref()));
-        mutants.note(&wrong, caught_by);
+        mutants.note_both(&wrong, both.map(|corpus| in_steps(corpus, &second(&wrong))));
     }
-    mutants.finish()
+    for wrong in variants::evidence_by_size() {
+        let second = &second(&wrong);
+        let in_corpora = || {
+            both.into_iter()
+                .find_map(|corpus| in_evidence(corpus, second))
+        };
+        mutants.note(&wrong, in_no_sizes(second).or_else(in_corpora));
+    }
+    for wrong in variants::reader_by_size() {
+        let second = &second(&wrong);
+        let in_corpora = || both.into_iter().find_map(|corpus| in_steps(corpus, second));
+        mutants.note(&wrong, in_no_sizes(second).or_else(in_corpora));
+    }
 }
 
 /// The first logarithm in which the library and a wrong variant differ.
@@ -229,31 +319,61 @@ fn in_whole_powers(powers: &[(u32, u64)], wrong: &dyn Operations) -> Option<Stri
     Some(format!("the whole power of {m}"))
 }
 
-/// The first sheet with different evidence or lines.
-fn in_answers(corpus: &Corpus, wrong: &dyn Operations) -> Option<String> {
-    first_sheet(corpus, |sheet| {
-        let answers = |operations| answers(operations, sheet, LINES, &mut Boxes, Edge::End);
-        answers(&LIBRARY) != answers(wrong)
+/// The first sheet with different evidence.
+fn in_evidence(corpus: &Corpus, wrong: &dyn Operations) -> Option<String> {
+    first_sheet(corpus, "evidence", |sheet| {
+        evidence_differs(corpus.size, sheet, wrong)
+    })
+}
+
+/// The first sheet with different lines.
+fn in_lines(corpus: &Corpus, wrong: &dyn Operations) -> Option<String> {
+    first_sheet(corpus, "lines", |sheet| {
+        let lines = |operations| lines_of(operations, sheet, LINES, &mut Boxes, Edge::End);
+        lines(&LIBRARY) != lines(wrong)
     })
 }
 
 /// The first sheet with a different step.
 fn in_steps(corpus: &Corpus, wrong: &dyn Operations) -> Option<String> {
-    let sheet = first_sheet(corpus, |sheet| {
-        let at = |operations, k| step_at(operations, sheet, k, &mut Boxes, Edge::End);
-        let numbers = step_numbers(sheet, false);
-        numbers.into_iter().any(|k| at(&LIBRARY, k) != at(wrong, k))
-    });
-    sheet.map(|origin| format!("a step of {origin}"))
+    first_sheet(corpus, "a step", |sheet| {
+        let numbers = step_numbers(corpus.size, sheet, false);
+        steps_differ(corpus.size, sheet, &numbers, wrong)
+    })
 }
 
-fn first_sheet(corpus: &Corpus, mut differs: impl FnMut(&[u8]) -> bool) -> Option<String> {
+/// The first size that is none by which evidence or a step differs.
+fn in_no_sizes(wrong: &dyn Operations) -> Option<String> {
+    sheets_of_either_size().iter().find_map(|sheet| {
+        let differs = |&size: &usize| {
+            evidence_differs(size, sheet, wrong) || steps_differ(size, sheet, &[0], wrong)
+        };
+        let size = NO_SIZES.into_iter().find(differs)?;
+        Some(format!("{} bytes by {size}", sheet.len()))
+    })
+}
+
+fn evidence_differs(size: usize, sheet: &[u8], wrong: &dyn Operations) -> bool {
+    let evidence = |operations| evidence_of(operations, size, sheet, &mut Boxes, Edge::End);
+    evidence(&LIBRARY) != evidence(wrong)
+}
+
+fn steps_differ(size: usize, sheet: &[u8], numbers: &[usize], wrong: &dyn Operations) -> bool {
+    let at = |operations, k| step_at(operations, size, sheet, k, &mut Boxes, Edge::End);
+    numbers.iter().any(|&k| at(&LIBRARY, k) != at(wrong, k))
+}
+
+fn first_sheet(
+    corpus: &Corpus,
+    what: &str,
+    mut differs: impl FnMut(&[u8]) -> bool,
+) -> Option<String> {
     let mut found = None;
     let _ = corpus.visit(&mut |origin, sheet| {
         if !differs(sheet) {
             return ControlFlow::Continue(());
         }
-        found = Some(origin.to_string());
+        found = Some(format!("{what} by {} of {origin}", corpus.size));
         ControlFlow::Break(())
     });
     found

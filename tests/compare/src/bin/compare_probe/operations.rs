@@ -9,15 +9,15 @@ use second::{evidence, lines, Document, Reader, Step};
 pub type Evidence = (usize, u32);
 
 /// What stands at a reader: how many whole records are left, which step of five, and its fields.
-pub type Standing = (usize, [u32; 6]);
+pub type Standing = (usize, [u32; 8]);
 
 pub trait Operations {
     fn logarithm(&self, m: u32) -> i64;
-    fn evidence(&self, sheet: &[u8]) -> Evidence;
-    /// Writes the lines if there is room, and answers how long they are.
+    fn evidence(&self, size: usize, sheet: &[u8]) -> Evidence;
+    /// Writes the lines of a 20-byte sheet if there is room, and answers how long they are.
     fn lines(&self, sheet: &[u8], output: &mut [u8]) -> usize;
     /// Moves a reader on k times, or to the end, and writes the step and its fields.
-    fn step(&self, sheet: &[u8], k: usize, numbers: &mut [u8]) -> usize;
+    fn step(&self, size: usize, sheet: &[u8], k: usize, numbers: &mut [u8]) -> usize;
 }
 
 pub const LIBRARY: Library = Library(Empty::Slice);
@@ -33,10 +33,11 @@ impl Operations for Library {
         i64::from(unsafe { probe_logarithm(m) })
     }
 
-    fn evidence(&self, sheet: &[u8]) -> Evidence {
+    fn evidence(&self, size: usize, sheet: &[u8]) -> Evidence {
         let mut code = u32::MAX;
-        let length = unsafe { probe_evidence(self.0.place(sheet), sheet.len(), &mut code) };
-        (length, code)
+        let (place, length) = (self.0.place(sheet), sheet.len());
+        let part = unsafe { probe_evidence(size, place, length, &mut code) };
+        (part, code)
     }
 
     fn lines(&self, sheet: &[u8], output: &mut [u8]) -> usize {
@@ -44,10 +45,10 @@ impl Operations for Library {
         unsafe { probe_lines(self.0.place(sheet), sheet.len(), place, length) }
     }
 
-    fn step(&self, sheet: &[u8], k: usize, numbers: &mut [u8]) -> usize {
-        let place = numbers.as_mut_ptr().cast::<[u32; 6]>();
+    fn step(&self, size: usize, sheet: &[u8], k: usize, numbers: &mut [u8]) -> usize {
+        let place = numbers.as_mut_ptr().cast::<[u32; 8]>();
         assert!(place.is_aligned() && numbers.len() == NUMBERS);
-        unsafe { probe_step(self.0.place(sheet), sheet.len(), k, place) }
+        unsafe { probe_step(size, self.0.place(sheet), sheet.len(), k, place) }
     }
 }
 
@@ -59,8 +60,8 @@ impl<D: Document + ?Sized> Operations for Second<'_, D> {
         self.0.g(m)
     }
 
-    fn evidence(&self, sheet: &[u8]) -> Evidence {
-        match evidence(self.0, sheet) {
+    fn evidence(&self, size: usize, sheet: &[u8]) -> Evidence {
+        match evidence(self.0, size, sheet) {
             Ok(part) => (part.len(), 0),
             Err(refusal) => (0, refusal.code()),
         }
@@ -74,8 +75,8 @@ impl<D: Document + ?Sized> Operations for Second<'_, D> {
         text.len()
     }
 
-    fn step(&self, sheet: &[u8], k: usize, numbers: &mut [u8]) -> usize {
-        let mut reader = Reader::new(self.0, sheet);
+    fn step(&self, size: usize, sheet: &[u8], k: usize, numbers: &mut [u8]) -> usize {
+        let mut reader = Reader::new(self.0, size, sheet);
         let mut moved = 0;
         while moved < k && reader.step() != Step::End {
             reader.move_on();
@@ -87,59 +88,65 @@ impl<D: Document + ?Sized> Operations for Second<'_, D> {
     }
 }
 
-/// The step's number and its five fields.
-fn fields(step: Step) -> [u32; 6] {
+/// The step's number and its seven fields.
+fn fields(step: Step) -> [u32; 8] {
     match step {
         Step::Pollutant {
             number,
             plan,
             limit,
             deviation,
-        } => [1, number.into(), plan.into(), limit, deviation, 0],
+        } => [1, number.into(), plan.into(), limit, deviation, 0, 0, 0],
         Step::Engine {
             cause,
-            measurements: [one, two, three, four],
-        } => [2, cause.into(), one, two, three, four],
-        Step::Stop => [3, 0, 0, 0, 0, 0],
-        Step::Other { kind } => [4, kind.into(), 0, 0, 0, 0],
-        Step::End => [5, 0, 0, 0, 0, 0],
+            measurements: [one, two, three, four, five, six],
+        } => [2, cause.into(), one, two, three, four, five, six],
+        Step::Stop => [3, 0, 0, 0, 0, 0, 0, 0],
+        Step::Other { kind } => [4, kind.into(), 0, 0, 0, 0, 0, 0],
+        Step::End => [5, 0, 0, 0, 0, 0, 0, 0],
     }
 }
 
 /// The room that the longest lines fit into.
 pub const LINES: usize = 64;
-/// The bytes of six numbers.
-const NUMBERS: usize = 24;
+/// The bytes of eight numbers.
+const NUMBERS: usize = 32;
 /// What memory holds before it is written.
 const UNWRITTEN: u8 = 0xA5;
 
-/// The evidence, how long the lines are, and what the output holds then.
-pub type Answers = (Evidence, usize, String);
+pub fn evidence_of(
+    operations: &dyn Operations,
+    size: usize,
+    sheet: &[u8],
+    lender: &mut impl Lender,
+    edge: Edge,
+) -> Evidence {
+    let evidence = |sheet: &[u8], _: &mut [u8]| operations.evidence(size, sheet);
+    lender.lend(sheet, &[], edge, evidence).0
+}
 
-/// With so much room for the lines.
-pub fn answers(
+/// How long the lines are, and what the output of so much room holds then.
+pub fn lines_of(
     operations: &dyn Operations,
     sheet: &[u8],
     room: usize,
     lender: &mut impl Lender,
     edge: Edge,
-) -> Answers {
-    let evidence = |sheet: &[u8], _: &mut [u8]| operations.evidence(sheet);
-    let (evidence, _) = lender.lend(sheet, &[], edge, evidence);
+) -> (usize, String) {
     let lines = |sheet: &[u8], output: &mut [u8]| operations.lines(sheet, output);
     let (length, output) = lender.lend(sheet, &[UNWRITTEN; LINES][..room], edge, lines);
-    let text = String::from_utf8_lossy(&output).into_owned();
-    (evidence, length, text)
+    (length, String::from_utf8_lossy(&output).into_owned())
 }
 
 pub fn step_at(
     operations: &dyn Operations,
+    size: usize,
     sheet: &[u8],
     k: usize,
     lender: &mut impl Lender,
     edge: Edge,
 ) -> Standing {
-    let step = |sheet: &[u8], numbers: &mut [u8]| operations.step(sheet, k, numbers);
+    let step = |sheet: &[u8], numbers: &mut [u8]| operations.step(size, sheet, k, numbers);
     let (left, bytes) = lender.lend(sheet, &[UNWRITTEN; NUMBERS], edge, step);
     (left, numbers_in(&bytes))
 }

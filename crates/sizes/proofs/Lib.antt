@@ -1,0 +1,11 @@
+pub mod Sized
+pub mod Joined
+pub mod SameBytes
+pub mod Columns
+pub mod Widened
+pub mod Narrowed
+pub mod Counted
+pub mod Mapped
+pub mod Sheets
+pub mod Converting
+pub mod OneSize
