@@ -7,8 +7,8 @@
 #include <stdint.h>
 #include <string.h>
 
-enum { RECORD = 20, LONGEST_SHEET = 740, POLLUTANTS = 4, PLANS = 5, LARGEST = 9999999 };
-enum { POLLUTANT = 1, ENGINE = 2, STOP = 3 };
+enum { RECORD = 20, LONGEST_SHEET = 760, POLLUTANTS = 4, PLANS = 5, LARGEST = 9999999 };
+enum { POLLUTANT = 1, ENGINE = 2, STOP = 3, SMALL_ENGINE = 5 };
 enum { OPEN = 0, PASS = 1, FAIL = 2, REFERRED = 3 };
 enum { BY_ROW = 1, BY_EQUAL_CAUSE = 2, BY_STOP = 3, BY_REFERRAL = 4 };
 
@@ -48,7 +48,7 @@ static const double fail_numbers[PLANS + 1][30] = {
 };
 
 struct series {
-    int plan, declared, engines, highest, stopped;
+    int plan, declared, small_engines, engines, highest, stopped;
     uint32_t limits[POLLUTANTS], deviations[POLLUTANTS];
 };
 
@@ -69,9 +69,14 @@ static uint32_t number_at(const uint8_t *record, int place)
     return number;
 }
 
+static uint16_t short_at(const uint8_t *record, int place)
+{
+    return (uint16_t)(record[place] | record[place + 1] << 8);
+}
+
 static uint16_t cause_of(const uint8_t *engine)
 {
-    return (uint16_t)(engine[2] | engine[3] << 8);
+    return short_at(engine, 2);
 }
 
 static int all_zero(const uint8_t *record, int from)
@@ -119,18 +124,43 @@ static int engine_fault(const uint8_t *record, const struct series *series)
     return record[1] == 0 ? 0 : 12;
 }
 
+static int is_day(uint32_t date)
+{
+    static const uint32_t days[13] = {0, 31, 28, 31, 30, 31, 30, 31, 31, 30, 31, 30, 31};
+    uint32_t year = date / 10000, month = date / 100 % 100, day = date % 100;
+    int leap = year % 4 == 0 && (year % 100 != 0 || year % 400 == 0);
+    return year >= 1 && year <= 9999 && month >= 1 && month <= 12 && day >= 1 &&
+           day <= days[month] + (month == 2 && leap);
+}
+
+static int small_engine_fault(const uint8_t *record, const struct series *series)
+{
+    uint32_t date = number_at(record, 8), limit = series->limits[POLLUTANTS - 1];
+    int is_small = short_at(record, 2) < 700 && short_at(record, 4) > 3000;
+    if (series->small_engines > 0 || series->engines > 0 || series->plan == 4)
+        return 16;
+    if (!is_day(date))
+        return 17;
+    if (limit != 0 && limit != (is_small && date <= 19980930 ? 250 : 150))
+        return 18;
+    return record[1] == 0 && short_at(record, 6) == 0 && all_zero(record, 12) ? 0 : 12;
+}
+
 static int fault(const uint8_t *record, const struct series *series)
 {
     int kind = record[0];
-    if (kind < POLLUTANT || kind > STOP)
+    if ((kind < POLLUTANT || kind > STOP) && kind != SMALL_ENGINE)
         return 2;
     if ((series->declared == 0 && kind != POLLUTANT) ||
-        (kind == POLLUTANT && series->engines > 0) || series->stopped)
+        (kind == POLLUTANT && (series->small_engines > 0 || series->engines > 0)) ||
+        series->stopped)
         return 3;
     if (kind == POLLUTANT)
         return pollutant_fault(record, series);
     if (kind == ENGINE)
         return engine_fault(record, series);
+    if (kind == SMALL_ENGINE)
+        return small_engine_fault(record, series);
     if (series->plan == 4)
         return 11;
     return all_zero(record, 1) ? 0 : 12;
@@ -146,6 +176,8 @@ static void take(const uint8_t *record, struct series *series)
         series->declared++;
     } else if (record[0] == ENGINE) {
         series->engines++;
+    } else if (record[0] == SMALL_ENGINE) {
+        series->small_engines++;
     } else {
         series->stopped = 1;
     }
@@ -264,8 +296,9 @@ static void judge(const uint8_t *sheet, const struct series *series, uint8_t *ou
         standings[i].limit = series->plan == 3 ? 0 : log(series->limits[i]);
         standings[i].deviation = series->deviations[i] / 1e6;
     }
+    const uint8_t *engines = sheet + (series->declared + series->small_engines) * RECORD;
     for (int n = 1; n <= series->engines; n++) {
-        const uint8_t *engine = sheet + (series->declared + n - 1) * RECORD;
+        const uint8_t *engine = engines + (n - 1) * RECORD;
         for (int i = 0; i < POLLUTANTS; i++)
             if (series->limits[i] != 0 && standings[i].decision == OPEN)
                 add(&standings[i], series->plan, series->limits[i], number_at(engine, 4 + 4 * i));

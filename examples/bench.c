@@ -12,29 +12,32 @@
  *     limit POLLUTANT LIMIT [DEVIATION]   pollutant co, hc, nox, pm or a number; limit in
  *                                         thousandths of its unit; deviation in millionths,
  *                                         plan 1 only
+ *     small-engine volume=V speed=S date=D     swept volume per cylinder in cubic centimetres,
+ *                                         rated speed per minute and date of the test, such as
+ *                                         19980930; after the limits, before the engines
  *     engine [co=X] [hc=X] [nox=X] [pm=X] [5=X] [6=X] [cause=C]     measurements in thousandths;
  *                                         5 and 6 with -s 28 only
  *     stop                                testing stopped by the manufacturer
  *
- * Numbers are whole: no sign, no decimal point, no comma. Upper case is read as lower case. Empty
- * lines, lines that begin with # and a byte order mark at the start say nothing, nor does a plan
- * or a limit that stands already: cells send theirs at every start. Lines end in LF or CR LF; the
- * last one may have no end.
+ * NAME=NUMBER words stand in any order. Numbers are whole: no sign, no decimal point, no comma.
+ * Upper case is read as lower case. Empty lines, lines that begin with # and a byte order mark at
+ * the start say nothing, nor does a plan, a limit or a small engine that stands already: cells send
+ * theirs at every start. Lines end in LF or CR LF; the last one may have no end.
  *
  * After each engine, and after a stop, the program prints how the series stands; it stops reading
  * when the series is decided. A line that is not understood, or that the library refuses, is
  * passed over: it is told with the reason, and the test goes on with the sheet as it was. Without
- * that limit or engine the series may pass where it would have failed, so a decision after such a
- * line has an exit status of its own, and the last line counts the lines passed over.
+ * that limit, small engine or engine the series may pass where it would have failed, so a decision
+ * after such a line has an exit status of its own, and the last line counts the lines passed over.
  *
  * FILE
  *
  * With -o the sheet is kept in FILE, which the program `verdict` reads if its records have 20
- * bytes. A record is on the disk before the next line is read. A FILE that holds a sheet is
- * resumed: plan, limits and engines are those of the sheet. The bytes of a record that a crash has
- * torn are told, and cut when the next record is written. A FILE that is no sheet, or one of
- * records of the other size, or that another bench keeps, is left as it is. A pipe or a device is
- * only written to.
+ * bytes. A record is on the disk before the next line is read; a volume or speed above 65535 is
+ * kept as 65535. A FILE that holds a sheet is resumed: plan, limits, small engine and engines are
+ * those of the sheet. The bytes of a record that a crash has torn are told, and cut when the next
+ * record is written. A FILE that is no sheet, or one of records of the other size, or that another
+ * bench keeps, is left as it is. A pipe or a device is only written to.
  *
  * EXIT STATUS
  *
@@ -101,6 +104,9 @@ static const char HELP[] =
     "  limit POLLUTANT LIMIT [DEVIATION]   pollutant co, hc, nox, pm or a number; limit in\n"
     "                                      thousandths of its unit; deviation in millionths,\n"
     "                                      plan 1 only\n"
+    "  small-engine volume=V speed=S date=D     swept volume per cylinder in cubic centimetres,\n"
+    "                                      rated speed per minute and date of the test, such as\n"
+    "                                      19980930; after the limits, before the engines\n"
     "  engine [co=X] [hc=X] [nox=X] [pm=X] [5=X] [6=X] [cause=C]     measurements in thousandths;\n"
     "                                      5 and 6 with -s 28 only\n"
     "  stop                                testing stopped by the manufacturer\n"
@@ -117,6 +123,8 @@ static const char HELP[] =
     "  3  decided, but lines were passed over\n";
 
 static const char *const POLLUTANTS[] = {"none", "co", "hc", "nox", "pm", "5", "6"};
+static const char *const SMALL_ENGINE_VALUES[] = {"volume", "speed", "date"};
+#define SMALL_ENGINE_COUNT (sizeof SMALL_ENGINE_VALUES / sizeof SMALL_ENGINE_VALUES[0])
 static const char *const VERDICTS[] = {"another", "pass", "fail", "referred"};
 static const char *const GROUNDS[] = {"none", "row", "equal cause", "stopped", "referred"};
 static const char *const DECISIONS[] = {"open", "pass", "fail"};
@@ -204,22 +212,66 @@ static const char *read_limit(const struct test *test, char **words, size_t coun
     return fault;
 }
 
-/* NAME=NUMBER. The cause has place 0 among the values, each pollutant that of its number. */
-static const char *read_value(size_t size, char *word, uint32_t *values, int *given)
+/* Of NAME=NUMBER, which becomes NAME: the number, empty where there is none. */
+static const char *number_of(char *word)
 {
     size_t name_length = strcspn(word, "=");
     const char *number = word[name_length] == '=' ? word + name_length + 1 : "";
-    uint32_t place;
     word[name_length] = '\0';
-    place = pollutant_named(size, word);
-    if (place == 0 && strcmp(word, "cause") != 0) {
-        return "an unknown name";
-    }
+    return number;
+}
+
+/* The number of a name that has this place among the values. */
+static const char *read_value(const char *number, size_t place, uint32_t *values, int *given)
+{
     if (given[place]) {
         return "a name is given twice";
     }
     given[place] = 1;
     return read_number(number, &values[place]);
+}
+
+/* The place of a name among the values; their count where it has none. */
+static size_t small_engine_place(const char *name)
+{
+    size_t place = 0;
+    while (place < SMALL_ENGINE_COUNT && strcmp(name, SMALL_ENGINE_VALUES[place]) != 0) {
+        place++;
+    }
+    return place;
+}
+
+static const char *read_small_engine_value(char *word, uint32_t *values, int *given)
+{
+    const char *number = number_of(word);
+    size_t place = small_engine_place(word);
+    return place < SMALL_ENGINE_COUNT ? read_value(number, place, values, given)
+                                      : "an unknown name";
+}
+
+/* With as many words as names, and no name twice, each name is given. */
+static const char *read_small_engine(size_t size, char **words, size_t count, uint8_t *record)
+{
+    uint32_t values[SMALL_ENGINE_COUNT] = {0};
+    int given[SMALL_ENGINE_COUNT] = {0};
+    const char *fault = wrong_count(count, 1 + SMALL_ENGINE_COUNT, 1 + SMALL_ENGINE_COUNT);
+    size_t i;
+    for (i = 1; i < count && fault == NULL; i++) {
+        fault = read_small_engine_value(words[i], values, given);
+    }
+    if (fault == NULL) {
+        conformity_small_engine_record_sized(size, record, values[0], values[1], values[2]);
+    }
+    return fault;
+}
+
+/* The cause has place 0 among the values, each pollutant that of its number. */
+static const char *read_engine_value(size_t size, char *word, uint32_t *values, int *given)
+{
+    const char *number = number_of(word);
+    uint32_t place = pollutant_named(size, word);
+    return place > 0 || strcmp(word, "cause") == 0 ? read_value(number, place, values, given)
+                                                   : "an unknown name";
 }
 
 static const char *read_engine(size_t size, char **words, size_t count, uint8_t *record)
@@ -229,7 +281,7 @@ static const char *read_engine(size_t size, char **words, size_t count, uint8_t 
     const char *fault = wrong_count(count, 2, 2 + conformity_pollutants(size));
     size_t i;
     for (i = 1; i < count && fault == NULL; i++) {
-        fault = read_value(size, words[i], values, given);
+        fault = read_engine_value(size, words[i], values, given);
     }
     if (fault == NULL) {
         conformity_engine_record_sized(size, record, values[0], values + 1);
@@ -244,6 +296,9 @@ static const char *read_words(struct test *test, char **words, size_t count, uin
     }
     if (strcmp(words[0], "limit") == 0) {
         return read_limit(test, words, count, record);
+    }
+    if (strcmp(words[0], "small-engine") == 0) {
+        return read_small_engine(test->size, words, count, record);
     }
     if (strcmp(words[0], "engine") == 0) {
         return read_engine(test->size, words, count, record);
@@ -277,10 +332,19 @@ static size_t limits_on(const struct test *test)
     return end;
 }
 
-static int is_limit_on(const struct test *test, const uint8_t *record)
+/* The bytes of what cells send at every start. */
+static size_t limits_and_small_engine_on(const struct test *test)
+{
+    size_t end = limits_on(test);
+    int has_small_engine =
+        end < test->used && test->sheet[end + KIND] == CONFORMITY_KIND_SMALL_ENGINE;
+    return has_small_engine ? end + test->size : end;
+}
+
+static int stands_already(const struct test *test, const uint8_t *record)
 {
     size_t at;
-    for (at = 0; at < limits_on(test); at += test->size) {
+    for (at = 0; at < limits_and_small_engine_on(test); at += test->size) {
         if (memcmp(test->sheet + at, record, test->size) == 0) {
             return 1;
         }
@@ -512,13 +576,12 @@ static enum outcome take_record(struct test *test, const uint8_t *record)
         return TROUBLE;
     }
     test->used += test->size;
-    if (record[KIND] == CONFORMITY_KIND_POLLUTANT) {
-        return UNDECIDED;
-    }
     if (record[KIND] == CONFORMITY_KIND_ENGINE) {
         printf("engine %u: ", (unsigned)engines_on(test));
-    } else {
+    } else if (record[KIND] == CONFORMITY_KIND_STOP) {
         fputs("stop: ", stdout);
+    } else {
+        return UNDECIDED; /* a limit or a small engine, before the first engine */
     }
     return print_standing(test);
 }
@@ -543,7 +606,7 @@ static enum outcome take_line(struct test *test, char *line, const char *fault)
         pass_over(test, 0, fault);
         return UNDECIDED;
     }
-    if (record[KIND] == NO_RECORD || is_limit_on(test, record)) {
+    if (record[KIND] == NO_RECORD || stands_already(test, record)) {
         return UNDECIDED;
     }
     return take_record(test, record);

@@ -53,12 +53,19 @@ static enum outcome trouble(const char *where, const char *why)
     return TROUBLE;
 }
 
-/* Refusals 2 to 12 name a record, counted from 0. */
+/* Whether the refusal of this number is of a record, which the code then names, counted from 0. */
+static int names_record(uint32_t number)
+{
+    return (number >= CONFORMITY_REFUSED_KIND && number <= CONFORMITY_REFUSED_ZERO) ||
+           (number >= CONFORMITY_REFUSED_SMALL_ENGINE &&
+            number <= CONFORMITY_REFUSED_PARTICULATE_LIMIT);
+}
+
 static enum outcome refused(const char *path, size_t size, uint32_t code)
 {
     uint32_t number = conformity_refusal_number(code);
     fprintf(stderr, "convert: %s: refused %u", path, (unsigned)number);
-    if (number >= CONFORMITY_REFUSED_KIND && number <= CONFORMITY_REFUSED_ZERO) {
+    if (names_record(number)) {
         fprintf(stderr, " at record %u", (unsigned)conformity_refusal_record(code));
     }
     fprintf(stderr, ": %s\n", conformity_refusal_text_sized(size, number));

@@ -1,8 +1,8 @@
 /*
  * header_test - checks include/conformity.h: every constant, builder and reader against document
- * 01's bytes and document 02's for 28-byte records, every refusal, in its order, through the
- * library, sheets of either size and the converter between them, and document 02's declared values.
- * Prints what fails, and last a line `N passed, M failed`.
+ * 01's bytes and document 02's for 28-byte records and small engines, every refusal, in its order,
+ * through the library, sheets of either size and the converter between them, and document 02's
+ * declared values. Prints what fails, and last a line `N passed, M failed`.
  */
 #include <conformity.h>
 
@@ -32,20 +32,21 @@ static int same(const uint8_t *bytes, const uint8_t *expected, size_t length)
 static void constants(void)
 {
     CHECK(CONFORMITY_RECORD_SIZE == 20 && CONFORMITY_REPORT_SIZE == 20);
-    CHECK(CONFORMITY_RECORDS_MAX == 37 && CONFORMITY_SHEET_MAX == 740);
+    CHECK(CONFORMITY_RECORDS_MAX == 38 && CONFORMITY_SHEET_MAX == 760);
     CHECK(CONFORMITY_SHEET_MAX == CONFORMITY_RECORDS_MAX * CONFORMITY_RECORD_SIZE);
     CHECK(CONFORMITY_POLLUTANTS == 4);
     CHECK(CONFORMITY_RECORD_SIZE_28 == 28 && CONFORMITY_REPORT_SIZE_28 == 28);
-    CHECK(CONFORMITY_RECORDS_MAX_28 == 39 && CONFORMITY_SHEET_MAX_28 == 1092);
+    CHECK(CONFORMITY_RECORDS_MAX_28 == 40 && CONFORMITY_SHEET_MAX_28 == 1120);
     CHECK(CONFORMITY_SHEET_MAX_28 == CONFORMITY_RECORDS_MAX_28 * CONFORMITY_RECORD_SIZE_28);
     CHECK(CONFORMITY_POLLUTANTS_28 == 6);
     CHECK(CONFORMITY_VALUE_MAX == 9999999);
     CHECK(CONFORMITY_DEVIATION_MAX == 4000000);
     CHECK(CONFORMITY_CAUSE_MAX == 65534);
     CHECK(CONFORMITY_TESTS_MAX == 3);
+    CHECK(CONFORMITY_PARTICULATE_LIMIT == 150 && CONFORMITY_PARTICULATE_LIMIT_SMALL_ENGINE == 250);
     CHECK(CONFORMITY_REPORT_MARK == 16);
     CHECK(CONFORMITY_KIND_POLLUTANT == 1 && CONFORMITY_KIND_ENGINE == 2);
-    CHECK(CONFORMITY_KIND_STOP == 3);
+    CHECK(CONFORMITY_KIND_STOP == 3 && CONFORMITY_KIND_SMALL_ENGINE == 5);
     CHECK(CONFORMITY_CARBON_MONOXIDE == 1 && CONFORMITY_HYDROCARBONS == 2);
     CHECK(CONFORMITY_NITROGEN_OXIDES == 3 && CONFORMITY_PARTICULATES == 4);
     CHECK(CONFORMITY_POLLUTANT_5 == 5 && CONFORMITY_POLLUTANT_6 == 6);
@@ -74,8 +75,8 @@ static void sizes(void)
     CHECK(conformity_other_size(20) == 28 && conformity_other_size(28) == 20);
     CHECK(conformity_converted_length(20, 100) == 140);
     CHECK(conformity_converted_length(28, 140) == 100);
-    CHECK(conformity_converted_length(20, CONFORMITY_SHEET_MAX) == 1036);
-    CHECK(conformity_converted_length(28, 1036) == CONFORMITY_SHEET_MAX);
+    CHECK(conformity_converted_length(20, CONFORMITY_SHEET_MAX) == 1064);
+    CHECK(conformity_converted_length(28, 1064) == CONFORMITY_SHEET_MAX);
     CHECK(conformity_converted_length(20, 0) == 0 && conformity_converted_length(28, 0) == 0);
     for (i = 0; i < NO_SIZE_COUNT; i++) {
         CHECK(conformity_pollutants(NO_SIZES[i]) == 0);
@@ -90,9 +91,13 @@ static void builders(void)
     static const uint8_t engine[20] = {2,    0,    0xfe, 0xff, 0x04, 0x03, 0x02, 0x01, 0, 0,
                                        0,    0,    0xff, 0xff, 0xff, 0xff, 0x7f, 0x96, 0x98, 0};
     static const uint8_t stop[20] = {3};
+    static const uint8_t small_engine[20] = {5, 0, 0xbb, 0x02, 0xb9, 0x0b, 0,
+                                             0, 0x82, 0xe2, 0x30, 0x01}; /* 699, 3001, 19980930 */
     static const uint8_t wide_pollutant[20] = {1,    255,  255,  0, 0xff, 0xff, 0xff, 0xff,
                                                0xff, 0xff, 0xff, 0xff};
     static const uint8_t wide_engine[20] = {2, 0, 0xff, 0xff};
+    static const uint8_t wide_small_engine[20] = {5, 0, 0xff, 0xff, 0xff, 0xff, 0,
+                                                  0, 0xff, 0xff, 0xff, 0xff};
     static const uint32_t measurements[4] = {0x01020304, 0, UINT32_MAX, CONFORMITY_VALUE_MAX};
     static const uint32_t none[4] = {0, 0, 0, 0};
     uint8_t record[CONFORMITY_RECORD_SIZE + 1]; /* and a byte that no builder may touch */
@@ -110,11 +115,19 @@ static void builders(void)
     conformity_stop_record(record);
     CHECK(same(record, stop, 20) && record[20] == 0xa5);
 
+    memset(record, 0xa5, sizeof record);
+    conformity_small_engine_record(record, 699, 3001, 19980930);
+    CHECK(same(record, small_engine, 20) && record[20] == 0xa5);
+
     /* 257 and 65536 + 7 must not become 1 and 7. */
     conformity_pollutant_record(record, 257, 257, UINT32_MAX, UINT32_MAX);
     CHECK(same(record, wide_pollutant, 20));
     conformity_engine_record(record, 65536 + 7, none);
     CHECK(same(record, wide_engine, 20));
+    conformity_small_engine_record(record, 65536 + 699, 65536, UINT32_MAX);
+    CHECK(same(record, wide_small_engine, 20));
+    conformity_small_engine_record(record, 65535, 65535, UINT32_MAX);
+    CHECK(same(record, wide_small_engine, 20));
 }
 
 /* The bytes from a place on are 0xa5 still. */
@@ -135,6 +148,8 @@ static void sized_builders(void)
                                        0,    0,    0xff, 0xff, 0xff, 0xff, 0x7f, 0x96, 0x98, 0,
                                        0x08, 0x07, 0x06, 0x05, 0x0c, 0x0b, 0x0a, 0x09};
     static const uint8_t stop[28] = {3};
+    static const uint8_t small_engine[28] = {5, 0, 0xbb, 0x02, 0xb9, 0x0b, 0,
+                                             0, 0x82, 0xe2, 0x30, 0x01};
     static const uint32_t measurements[6] = {
         0x01020304, 0, UINT32_MAX, CONFORMITY_VALUE_MAX, 0x05060708, 0x090a0b0c,
     };
@@ -157,6 +172,10 @@ static void sized_builders(void)
         memset(record, 0xa5, sizeof record);
         conformity_stop_record_sized(size, record);
         CHECK(same(record, stop, written) && is_untouched(record, written, sizeof record));
+
+        memset(record, 0xa5, sizeof record);
+        conformity_small_engine_record_sized(size, record, 699, 3001, 19980930);
+        CHECK(same(record, small_engine, written) && is_untouched(record, written, sizeof record));
     }
 }
 
@@ -217,7 +236,7 @@ static void sized_readers(void)
 /* Of the numbers up to the greatest refusal's. */
 static int is_no_refusal(uint32_t number)
 {
-    return (number >= 16 && number <= 19) || (number >= 23 && number <= 29);
+    return number == 19 || (number >= 23 && number <= 29);
 }
 
 static void codes(void)
@@ -228,11 +247,15 @@ static void codes(void)
     CHECK(conformity_refusal_record(12 * 256 + 36) == 36);
     CHECK(conformity_refusal_number(15 * 256 + 255) == 15);
     CHECK(conformity_refusal_record(15 * 256 + 255) == 255);
+    CHECK(CONFORMITY_REFUSED_SMALL_ENGINE == 16 && CONFORMITY_REFUSED_DATE == 17);
+    CHECK(CONFORMITY_REFUSED_PARTICULATE_LIMIT == 18);
+    CHECK(conformity_refusal_number(18 * 256 + 6) == CONFORMITY_REFUSED_PARTICULATE_LIMIT);
+    CHECK(conformity_refusal_record(18 * 256 + 6) == 6);
     CHECK(CONFORMITY_REFUSED_TESTS == 20 && CONFORMITY_REFUSED_VALUE == 21);
     CHECK(CONFORMITY_REFUSED_LATE_TEST == 22);
     CHECK(CONFORMITY_REFUSED_SIZE == 30 && CONFORMITY_REFUSED_NARROWING == 31);
     CHECK(CONFORMITY_REFUSED_CONVERTED_OUTPUT == 32);
-    /* A sentence of its own for each number: 0, 1 to 15, 20 to 22, 30 to 32, and one for all
+    /* A sentence of its own for each number: 0, 1 to 18, 20 to 22, 30 to 32, and one for all
        others. */
     for (number = 0; number <= CONFORMITY_REFUSED_CONVERTED_OUTPUT; number++) {
         CHECK(conformity_refusal_text(number)[0] != '\0');
@@ -241,8 +264,23 @@ static void codes(void)
                   (is_no_refusal(number) && is_no_refusal(other)));
         }
     }
-    CHECK(strcmp(conformity_refusal_text(16), conformity_refusal_text(UINT32_MAX)) == 0);
-    CHECK(strcmp(conformity_refusal_text(16), conformity_refusal_text(33)) == 0);
+    CHECK(strcmp(conformity_refusal_text(19), conformity_refusal_text(UINT32_MAX)) == 0);
+    CHECK(strcmp(conformity_refusal_text(19), conformity_refusal_text(33)) == 0);
+}
+
+/* The sentences that speak of small engines. */
+static void small_engine_texts(void)
+{
+    CHECK(strcmp(conformity_refusal_text(CONFORMITY_REFUSED_KIND),
+                 "the record's kind is not 1, 2, 3 or 5") == 0);
+    CHECK(strcmp(conformity_refusal_text(CONFORMITY_REFUSED_SMALL_ENGINE),
+                 "the small engine is a second one, is not straight after the pollutants, "
+                 "or is in plan 4") == 0);
+    CHECK(strcmp(conformity_refusal_text(CONFORMITY_REFUSED_DATE),
+                 "the date is no day of the years 1 to 9999") == 0);
+    CHECK(strcmp(conformity_refusal_text(CONFORMITY_REFUSED_PARTICULATE_LIMIT),
+                 "the particulate limit is not the one for the volume, speed and date: "
+                 "250 or 150") == 0);
 }
 
 struct sized_text {
@@ -253,7 +291,7 @@ struct sized_text {
 
 /* The sentences that have a number of the size in them. */
 static const struct sized_text SIZED_TEXTS[] = {
-    {CONFORMITY_REFUSED_LENGTH, "longer than 740 bytes", "longer than 1092 bytes"},
+    {CONFORMITY_REFUSED_LENGTH, "longer than 760 bytes", "longer than 1120 bytes"},
     {CONFORMITY_REFUSED_POLLUTANT, "not 1 to 4,", "not 1 to 6,"},
     {CONFORMITY_REFUSED_RECORD, "not 20 bytes", "not 28 bytes"},
     {CONFORMITY_REFUSED_OUTPUT, "than 20 bytes", "than 28 bytes"},
@@ -379,6 +417,13 @@ static uint32_t append_stop(void)
     return append(record);
 }
 
+static uint32_t append_small_engine(uint32_t volume, uint32_t speed, uint32_t date)
+{
+    uint8_t record[CONFORMITY_RECORD_SIZE_28];
+    conformity_small_engine_record_sized(record_size, record, volume, speed, date);
+    return append(record);
+}
+
 static uint32_t code_of(uint32_t number, uint32_t record)
 {
     return number * 256 + record;
@@ -406,6 +451,12 @@ static void refused_zeros(void)
     conformity_engine_record_sized(record_size, record, 0, measurements);
     record[1] = 1;
     CHECK(append(record) == code_of(CONFORMITY_REFUSED_ZERO, 1));
+    for (i = 9; i < record_size; i++) {
+        size_t byte = i == 9 ? 1 : i == 10 ? 6 : i == 11 ? 7 : i;
+        conformity_small_engine_record_sized(record_size, record, 700, 3000, 19981001);
+        record[byte] = 1;
+        CHECK(append(record) == code_of(CONFORMITY_REFUSED_ZERO, 1));
+    }
 }
 
 static void refused_records(void)
@@ -520,23 +571,47 @@ static void no_memory(void)
     }
 }
 
-/* The longest sheet there is: every pollutant, 32 engines and a stop. */
-static void longest_sheet(void)
+static void append_every_pollutant(void)
 {
-    static const uint32_t measurements[CONFORMITY_POLLUTANTS_28] = {1000, 1000, 1000,
-                                                                    1000, 1000, 1000};
-    uint8_t record[CONFORMITY_RECORD_SIZE_28];
     uint32_t pollutant;
-    int engine;
-    new_sheet();
     for (pollutant = 1; pollutant <= conformity_pollutants(record_size); pollutant++) {
-        CHECK(append_pollutant(pollutant, CONFORMITY_PLAN_UNKNOWN_DEVIATION, 1000, 0) == 0);
+        CHECK(append_pollutant(pollutant, CONFORMITY_PLAN_UNKNOWN_DEVIATION, 150, 0) == 0);
     }
+}
+
+/* As many engines as the plan has rows, and a stop. */
+static void append_every_engine(void)
+{
+    static const uint32_t measurements[CONFORMITY_POLLUTANTS_28] = {150, 150, 150, 150, 150, 150};
+    uint8_t record[CONFORMITY_RECORD_SIZE_28];
+    int engine;
     conformity_engine_record_sized(record_size, record, 0, measurements);
     for (engine = 1; engine <= 32; engine++) {
         CHECK(append(record) == 0);
     }
     CHECK(append_stop() == 0);
+}
+
+/* With a record more it is as long as a sheet may be: that record is refused, not the length. */
+static void longest_without_small_engine(void)
+{
+    new_sheet();
+    append_every_pollutant();
+    append_every_engine();
+    CHECK(used == longest() - record_size);
+    CHECK(append_stop() == code_of(CONFORMITY_REFUSED_ORDER, (uint32_t)(used / record_size)));
+    CHECK(append_small_engine(700, 3000, 19981001) ==
+          code_of(CONFORMITY_REFUSED_ORDER, (uint32_t)(used / record_size)));
+}
+
+/* The longest sheet there is: every pollutant, a small engine, 32 engines and a stop. */
+static void longest_sheet(void)
+{
+    uint8_t record[CONFORMITY_RECORD_SIZE_28];
+    new_sheet();
+    append_every_pollutant();
+    CHECK(append_small_engine(700, 3000, 19981001) == 0);
+    append_every_engine();
     CHECK(used == longest());
     CHECK(append_stop() == code_of(CONFORMITY_REFUSED_LENGTH, 0));
     conformity_stop_record_sized(record_size, record);
@@ -696,6 +771,214 @@ static void finer_logarithm(void)
     CHECK_REPORT(CONFORMITY_VERDICT_FAIL, CONFORMITY_GROUND_ROW, 3, CONFORMITY_DECISION_FAIL);
 }
 
+/* ---- Document 02, F-1: small engines ---- */
+
+struct small_engine_case {
+    uint32_t limit; /* of particulates */
+    uint32_t volume;
+    uint32_t speed;
+    uint32_t date;
+    uint32_t number; /* of the refusal, or 0 */
+};
+
+static const struct small_engine_case SMALL_ENGINE_CASES[] = {
+    {250, 699, 3001, 19980930, 0},
+    {250, 699, 3001, 19981001, CONFORMITY_REFUSED_PARTICULATE_LIMIT},
+    {250, 700, 3001, 19980930, CONFORMITY_REFUSED_PARTICULATE_LIMIT},
+    {250, 699, 3000, 19980930, CONFORMITY_REFUSED_PARTICULATE_LIMIT},
+    {150, 699, 3001, 19980930, CONFORMITY_REFUSED_PARTICULATE_LIMIT},
+    {150, 699, 3001, 19981001, 0},
+    {150, 700, 3001, 19980930, 0},
+    {150, 699, 3000, 19980930, 0},
+    {249, 699, 3001, 19980930, CONFORMITY_REFUSED_PARTICULATE_LIMIT},
+    {251, 699, 3001, 19980930, CONFORMITY_REFUSED_PARTICULATE_LIMIT},
+    {149, 700, 3000, 19981001, CONFORMITY_REFUSED_PARTICULATE_LIMIT},
+    {151, 700, 3000, 19981001, CONFORMITY_REFUSED_PARTICULATE_LIMIT},
+    /* Volume and speed have no range. */
+    {150, 0, 0, 19980930, 0},
+    {250, 0, 65535, 19980930, 0},
+    {150, 65535, 65535, 19980930, 0},
+    /* 65536 + 699 and 65536 must not become 699 and 0. */
+    {250, 65536 + 699, 3001, 19980930, CONFORMITY_REFUSED_PARTICULATE_LIMIT},
+    {150, 65536 + 699, 3001, 19980930, 0},
+    {250, 699, 65536, 19980930, 0},
+    {150, 699, 65536, 19980930, CONFORMITY_REFUSED_PARTICULATE_LIMIT},
+    {150, UINT32_MAX, UINT32_MAX, 19981001, 0},
+    /* Days, and numbers that are none; with a number that is none the limit is not asked about. */
+    {250, 699, 3001, 10101, 0},
+    {150, 699, 3001, 99991231, 0},
+    {250, 699, 3001, 40229, 0},
+    {250, 699, 3001, 4000229, 0},
+    {250, 699, 3001, 19960229, 0},
+    {150, 699, 3001, 20000229, 0},
+    {250, 699, 3001, 0, CONFORMITY_REFUSED_DATE},
+    {250, 699, 3001, 101, CONFORMITY_REFUSED_DATE},
+    {250, 699, 3001, 10001, CONFORMITY_REFUSED_DATE},
+    {250, 699, 3001, 10100, CONFORMITY_REFUSED_DATE},
+    {250, 699, 3001, 1000229, CONFORMITY_REFUSED_DATE},
+    {250, 699, 3001, 19000229, CONFORMITY_REFUSED_DATE},
+    {250, 699, 3001, 19970229, CONFORMITY_REFUSED_DATE},
+    {250, 699, 3001, 19960230, CONFORMITY_REFUSED_DATE},
+    {250, 699, 3001, 19980431, CONFORMITY_REFUSED_DATE},
+    {250, 699, 3001, 19980931, CONFORMITY_REFUSED_DATE},
+    {250, 699, 3001, 19980132, CONFORMITY_REFUSED_DATE},
+    {250, 699, 3001, 19981301, CONFORMITY_REFUSED_DATE},
+    {250, 699, 3001, 100000101, CONFORMITY_REFUSED_DATE},
+    {250, 699, 3001, UINT32_MAX, CONFORMITY_REFUSED_DATE},
+    {999, 699, 3001, 19980931, CONFORMITY_REFUSED_DATE},
+};
+
+static void small_engine_cases(void)
+{
+    size_t i;
+    for (i = 0; i < sizeof SMALL_ENGINE_CASES / sizeof SMALL_ENGINE_CASES[0]; i++) {
+        const struct small_engine_case *c = &SMALL_ENGINE_CASES[i];
+        uint32_t refused = c->number == 0 ? 0 : code_of(c->number, 1);
+        new_sheet();
+        CHECK(append_pollutant(4, CONFORMITY_PLAN_ATTRIBUTES, c->limit, 0) == 0);
+        CHECK(append_small_engine(c->volume, c->speed, c->date) == refused);
+    }
+}
+
+/* The record counts as no engine, and the sheet is judged by the limit that it declares. */
+static void small_engine_verdicts(void)
+{
+    int i;
+    new_sheet();
+    CHECK(append_pollutant(4, CONFORMITY_PLAN_ATTRIBUTES, 250, 0) == 0);
+    CHECK(append_small_engine(699, 3001, 19980930) == 0);
+    CHECK_REPORT(CONFORMITY_VERDICT_ANOTHER, CONFORMITY_GROUND_NONE, 0, CONFORMITY_DECISION_OPEN);
+    for (i = 0; i < 4; i++) {
+        CHECK(append_engine(140, 0) == 0);
+    }
+    CHECK_REPORT(CONFORMITY_VERDICT_PASS, CONFORMITY_GROUND_ROW, 4, CONFORMITY_DECISION_PASS);
+    for (i = 5; i <= 19; i++) {
+        CHECK(append_engine(140, 0) == 0);
+    }
+    CHECK(append_engine(140, 0) == code_of(CONFORMITY_REFUSED_ENGINES, 21));
+
+    new_sheet();
+    CHECK(append_pollutant(4, CONFORMITY_PLAN_ATTRIBUTES, 150, 0) == 0);
+    CHECK(append_small_engine(699, 3001, 19981001) == 0);
+    CHECK(append_engine(250, 0) == 0);
+    CHECK(append_engine(250, 0) == 0);
+    CHECK_REPORT(CONFORMITY_VERDICT_ANOTHER, CONFORMITY_GROUND_NONE, 2, CONFORMITY_DECISION_OPEN);
+    CHECK(append_engine(250, 0) == 0);
+    CHECK_REPORT(CONFORMITY_VERDICT_FAIL, CONFORMITY_GROUND_ROW, 3, CONFORMITY_DECISION_FAIL);
+
+    new_sheet();
+    CHECK(append_pollutant(4, CONFORMITY_PLAN_KNOWN_DEVIATION, 150, 1) == 0);
+    CHECK(append_small_engine(700, 3000, 19981001) == 0);
+    CHECK(append_stop() == 0);
+    CHECK_REPORT(CONFORMITY_VERDICT_FAIL, CONFORMITY_GROUND_STOPPED, 0, CONFORMITY_DECISION_OPEN);
+}
+
+/* Of other pollutants no limit is asked for, and the date is a day all the same. */
+static void no_particulates(void)
+{
+    new_sheet();
+    CHECK(append_pollutant(1, CONFORMITY_PLAN_CORRECTED, 999, 0) == 0);
+    CHECK(append_pollutant(3, CONFORMITY_PLAN_CORRECTED, 999, 0) == 0);
+    CHECK(append_small_engine(699, 3001, 19980931) == code_of(CONFORMITY_REFUSED_DATE, 2));
+    CHECK(append_small_engine(699, 3001, 19980930) == 0);
+
+    new_sheet();
+    CHECK(append_pollutant(3, CONFORMITY_PLAN_ATTRIBUTES, 999, 0) == 0);
+    CHECK(append_pollutant(4, CONFORMITY_PLAN_ATTRIBUTES, 250, 0) == 0);
+    CHECK(append_small_engine(700, 3001, 19980930) ==
+          code_of(CONFORMITY_REFUSED_PARTICULATE_LIMIT, 2));
+    CHECK(append_small_engine(699, 3001, 19980930) == 0);
+}
+
+/* Straight after the pollutants, once, not in plan 4; and no record is of kind 4 or 6. */
+static void misplaced_small_engines(void)
+{
+    uint8_t record[CONFORMITY_RECORD_SIZE_28];
+    new_sheet();
+    CHECK(append_small_engine(699, 3001, 19980930) == code_of(CONFORMITY_REFUSED_ORDER, 0));
+    CHECK(append_pollutant(3, CONFORMITY_PLAN_ATTRIBUTES, 250, 0) == 0);
+    conformity_small_engine_record_sized(record_size, record, 699, 3001, 19980930);
+    record[0] = 4;
+    CHECK(append(record) == code_of(CONFORMITY_REFUSED_KIND, 1));
+    record[0] = 6;
+    CHECK(append(record) == code_of(CONFORMITY_REFUSED_KIND, 1));
+    CHECK(append_small_engine(699, 3001, 19980930) == 0);
+    CHECK(append_small_engine(699, 3001, 19980930) == code_of(CONFORMITY_REFUSED_SMALL_ENGINE, 2));
+    CHECK(append_pollutant(4, CONFORMITY_PLAN_ATTRIBUTES, 250, 0) ==
+          code_of(CONFORMITY_REFUSED_ORDER, 2));
+    CHECK(append_measured(3, 140, 0) == 0);
+    CHECK(append_small_engine(699, 3001, 19980930) == code_of(CONFORMITY_REFUSED_SMALL_ENGINE, 3));
+
+    new_sheet();
+    CHECK(append_pollutant(4, CONFORMITY_PLAN_ATTRIBUTES, 250, 0) == 0);
+    CHECK(append_engine(140, 0) == 0);
+    CHECK(append_small_engine(699, 3001, 19980930) == code_of(CONFORMITY_REFUSED_SMALL_ENGINE, 2));
+    CHECK(append_stop() == 0);
+    CHECK(append_small_engine(699, 3001, 19980930) == code_of(CONFORMITY_REFUSED_ORDER, 3));
+
+    new_sheet();
+    CHECK(append_pollutant(4, CONFORMITY_PLAN_IN_SERVICE, 250, 0) == 0);
+    CHECK(append_small_engine(699, 3001, 19980930) == code_of(CONFORMITY_REFUSED_SMALL_ENGINE, 1));
+}
+
+/* The first in the order 2, 3, 16, 17, 18, 12 of a small engine with each later fault too. */
+static void small_engine_order(void)
+{
+    uint8_t record[CONFORMITY_RECORD_SIZE_28];
+    conformity_small_engine_record_sized(record_size, record, 699, 3001, 0);
+    record[1] = 1;
+    new_sheet();
+    record[0] = 4;
+    CHECK(append(record) == code_of(CONFORMITY_REFUSED_KIND, 0));
+    record[0] = CONFORMITY_KIND_SMALL_ENGINE;
+    CHECK(append(record) == code_of(CONFORMITY_REFUSED_ORDER, 0));
+    CHECK(append_pollutant(4, CONFORMITY_PLAN_IN_SERVICE, 999, 0) == 0);
+    CHECK(append(record) == code_of(CONFORMITY_REFUSED_SMALL_ENGINE, 1));
+
+    new_sheet();
+    CHECK(append_pollutant(4, CONFORMITY_PLAN_ATTRIBUTES, 250, 0) == 0);
+    CHECK(append(record) == code_of(CONFORMITY_REFUSED_DATE, 1));
+    conformity_small_engine_record_sized(record_size, record, 699, 3001, 19981001);
+    record[1] = 1;
+    CHECK(append(record) == code_of(CONFORMITY_REFUSED_PARTICULATE_LIMIT, 1));
+    conformity_small_engine_record_sized(record_size, record, 699, 3001, 19980930);
+    record[1] = 1;
+    CHECK(append(record) == code_of(CONFORMITY_REFUSED_ZERO, 1));
+}
+
+/* A sheet with such a record is refused by every entry alike, and append names that record. */
+static void refused_small_engine_sheet(uint32_t number, uint32_t date)
+{
+    uint8_t record[CONFORMITY_RECORD_SIZE_28], report[CONFORMITY_REPORT_SIZE_28];
+    uint32_t refused = code_of(number, 1);
+    new_sheet();
+    CHECK(append_pollutant(4, CONFORMITY_PLAN_ATTRIBUTES, 250, 0) == 0);
+    conformity_small_engine_record_sized(record_size, buffer + used, 699, 3001, date);
+    used += record_size;
+    memset(report, 0xa5, sizeof report);
+    CHECK(report_on(buffer, used, report, sizeof report) == refused);
+    CHECK(is_untouched(report, 0, sizeof report));
+    CHECK(convert(record_size, buffer, used, 0) == refused);
+    CHECK(append_stop() == refused);
+    /* 14 and 13 come before it, and 15. */
+    conformity_stop_record_sized(record_size, record);
+    CHECK(append_length(record, record_size - 1, 0) == code_of(CONFORMITY_REFUSED_RECORD, 0));
+    CHECK(append_length(record, record_size, used) == code_of(CONFORMITY_REFUSED_BUFFER, 0));
+    CHECK(report_on(buffer, used, report, record_size - 1) ==
+          code_of(CONFORMITY_REFUSED_OUTPUT, 0));
+}
+
+static void small_engines(void)
+{
+    small_engine_cases();
+    small_engine_verdicts();
+    no_particulates();
+    misplaced_small_engines();
+    small_engine_order();
+    refused_small_engine_sheet(CONFORMITY_REFUSED_DATE, 19980931);
+    refused_small_engine_sheet(CONFORMITY_REFUSED_PARTICULATE_LIMIT, 19981001);
+}
+
 /* ---- Document 02, F-10: two sizes ---- */
 
 static void each_way(void)
@@ -712,11 +995,13 @@ static void each_way(void)
         refused_records();
         refused_memory();
         no_memory();
+        longest_without_small_engine();
         longest_sheet();
         verdicts();
         referral();
         corrected_sheet();
         finer_logarithm();
+        small_engines();
     }
 }
 
@@ -833,7 +1118,7 @@ static void longest_converted(void)
     longest_sheet();
     CHECK(report_on(buffer, used, report, sizeof report) == 0);
     check_converted(report);
-    CHECK(convert(20, buffer, used, 1035) == code_of(CONFORMITY_REFUSED_CONVERTED_OUTPUT, 0));
+    CHECK(convert(20, buffer, used, 1063) == code_of(CONFORMITY_REFUSED_CONVERTED_OUTPUT, 0));
 }
 
 /* After the sheet's own refusals and before 32, also where no engine is on the sheet yet. */
@@ -958,6 +1243,7 @@ int main(void)
     readers();
     sized_readers();
     codes();
+    small_engine_texts();
     sized_texts();
     each_way();
     report_of_six();

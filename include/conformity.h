@@ -3,8 +3,8 @@
  *
  * A series of engines is tested one engine at a time until the measurements
  * decide: the series passes, fails, or is referred to the authority. The rules
- * are those of Directive 96/1/EC, section 8.1.1.1.3 and Appendices 1 to 3
- * (production), and of COM(97) 77, Appendix 1 (vehicles in service).
+ * are those of Directive 96/1/EC, sections 8.1.1.1.1 and 8.1.1.1.3 and Appendices
+ * 1 to 3 (production), and of COM(97) 77, Appendix 1 (vehicles in service).
  *
  * The caller keeps a SHEET: records of 20 bytes, or with six pollutants of 28
  * bytes (TWO SIZES, below), one after another, in memory of its own. Two functions
@@ -104,15 +104,15 @@ extern "C" {
 /* ---- Sizes and ranges --------------------------------------------------- */
 
 #define CONFORMITY_RECORD_SIZE 20 /* bytes of a record */
-#define CONFORMITY_RECORDS_MAX 37 /* 4 pollutants, 32 engines and a stop */
-#define CONFORMITY_SHEET_MAX 740  /* bytes of the longest sheet */
+#define CONFORMITY_RECORDS_MAX 38 /* 4 pollutants, a small engine, 32 engines and a stop */
+#define CONFORMITY_SHEET_MAX 760  /* bytes of the longest sheet */
 #define CONFORMITY_REPORT_SIZE 20 /* bytes of a report */
 #define CONFORMITY_POLLUTANTS 4   /* measurements in an engine's record */
 
 /* The same for 28-byte records. Memory of these lengths serves both sizes. */
 #define CONFORMITY_RECORD_SIZE_28 28
-#define CONFORMITY_RECORDS_MAX_28 39 /* 6 pollutants, 32 engines and a stop */
-#define CONFORMITY_SHEET_MAX_28 1092
+#define CONFORMITY_RECORDS_MAX_28 40 /* 6 pollutants, a small engine, 32 engines and a stop */
+#define CONFORMITY_SHEET_MAX_28 1120
 #define CONFORMITY_REPORT_SIZE_28 28
 #define CONFORMITY_POLLUTANTS_28 6
 
@@ -121,18 +121,25 @@ extern "C" {
 #define CONFORMITY_CAUSE_MAX 65534       /* greatest cause of a gross emitter; least 1 */
 #define CONFORMITY_TESTS_MAX 3           /* most tests of a declared value; least 1 */
 
+/* The two particulate limits of a sheet with a small-engine record, in thousandths of g/kWh: see
+   conformity_small_engine_record. */
+#define CONFORMITY_PARTICULATE_LIMIT 150
+#define CONFORMITY_PARTICULATE_LIMIT_SMALL_ENGINE 250
+
 /* ---- What a sheet says -------------------------------------------------- */
 
 /*
  * The order of records: one pollutant record for each declared pollutant, by
- * rising number and all of one plan; then the engines as they are tested; then,
- * if the manufacturer stops testing, one stop, after which nothing follows.
- * A sheet may end after any record.
+ * rising number and all of one plan; then, for engines whose particulate limit
+ * depends on their size and the date, one small engine, not in plan 4; then the
+ * engines as they are tested; then, if the manufacturer stops testing, one stop,
+ * after which nothing follows. A sheet may end after any record.
  */
 enum conformity_kind {
-    CONFORMITY_KIND_POLLUTANT = 1, /* a pollutant with its limit */
-    CONFORMITY_KIND_ENGINE = 2,    /* an engine, or in plan 4 a vehicle */
-    CONFORMITY_KIND_STOP = 3       /* testing stopped by the manufacturer */
+    CONFORMITY_KIND_POLLUTANT = 1,   /* a pollutant with its limit */
+    CONFORMITY_KIND_ENGINE = 2,      /* an engine, or in plan 4 a vehicle */
+    CONFORMITY_KIND_STOP = 3,        /* testing stopped by the manufacturer */
+    CONFORMITY_KIND_SMALL_ENGINE = 5 /* what the particulate limit depends on */
 };
 
 enum conformity_pollutant {
@@ -186,16 +193,18 @@ enum conformity_decision {
  *
  *     refusal number * 256 + record
  *
- * where the record is counted from 0 and is 0 for refusal 1 and from 13 on, which
- * name none. A sheet is refused for its first faulty record, and for the lowest
- * number that applies to it. No refusal has the numbers 16 to 19 and 23 to 29.
+ * where the record is counted from 0. Refusals 2 to 12 and 16 to 18 name a record;
+ * 1, 13 to 15 and those from 20 on name none, and the record is 0. A sheet is refused
+ * for its first faulty record, and for the number that applies to it and comes first
+ * in the order 2, 3, 16, 17, 18, 4, 5, .. 12. No refusal has the numbers 19 and 23
+ * to 29.
  *
  * A number in brackets stands, for 28-byte records, in place of the one before it.
  */
 enum conformity_refusal {
-    /* The sheet is empty, not a whole number of records, or longer than 740 (1,092) bytes. */
+    /* The sheet is empty, not a whole number of records, or longer than 760 (1,120) bytes. */
     CONFORMITY_REFUSED_LENGTH = 1,
-    /* The record's kind is not 1, 2 or 3. */
+    /* The record's kind is not 1, 2, 3 or 5. */
     CONFORMITY_REFUSED_KIND = 2,
     /* The first record is no pollutant, a pollutant follows another kind, or a record follows the
        stop. */
@@ -225,6 +234,13 @@ enum conformity_refusal {
     CONFORMITY_REFUSED_RECORD = 14,
     /* report: the output is shorter than 20 (28) bytes. */
     CONFORMITY_REFUSED_OUTPUT = 15,
+    /* The small engine is a second one, is not straight after the pollutants, or is in plan 4. */
+    CONFORMITY_REFUSED_SMALL_ENGINE = 16,
+    /* The date is no day of the years 1 to 9999. */
+    CONFORMITY_REFUSED_DATE = 17,
+    /* The particulate limit is declared and not the one for the volume, speed and date: 250 or
+       150. */
+    CONFORMITY_REFUSED_PARTICULATE_LIMIT = 18,
     /* declared: there are no tests, or more than 3. */
     CONFORMITY_REFUSED_TESTS = 20,
     /* declared: the declared value or a test is not 1 to 9,999,999. */
@@ -250,11 +266,13 @@ enum conformity_refusal {
  * the caller adds to its own `used`.
  *
  * Otherwise no byte has changed, and the refusal is the first of these:
- *     14       the record is not 20 bytes
- *     13       no room for it
- *     1 to 12  the sheet that was there is refused (not looked at if used is 0)
- *     1 to 12  the sheet with the record added would be refused; the record
- *              named is then the new one, used / 20 (for refusal 1, as always, 0)
+ *     14                 the record is not 20 bytes
+ *     13                 no room for it
+ *     1 to 12, 16 to 18  the sheet that was there is refused (not looked at if
+ *                        used is 0)
+ *     1 to 12, 16 to 18  the sheet with the record added would be refused; the
+ *                        record named is then the new one, used / 20 (for
+ *                        refusal 1, as always, 0)
  *
  * Records may be added after the series is decided. They are checked like any
  * other and do not change the verdict.
@@ -268,8 +286,8 @@ uint32_t conformity_append(uint8_t *buffer, size_t buffer_length, size_t used,
  * Returns 0 when the report was written; bytes of the output past the first 20
  * have not changed. Otherwise no byte has changed, and the refusal is the first
  * of these:
- *     15       the output is shorter than 20 bytes
- *     1 to 12  the sheet is refused
+ *     15                 the output is shorter than 20 bytes
+ *     1 to 12, 16 to 18  the sheet is refused
  */
 uint32_t conformity_report(const uint8_t *sheet, size_t sheet_length,
                            uint8_t *output, size_t output_length);
@@ -294,10 +312,10 @@ uint32_t conformity_report_sized(size_t size, const uint8_t *sheet, size_t sheet
  * CONFORMITY_SHEET_MAX_28 are always room enough. Bytes of the output behind them
  * have not changed. Otherwise no byte has changed, and the refusal is the first of
  * these:
- *     30       the size is not 20 or 28
- *     1 to 12  the sheet is refused
- *     31       from 28 to 20 bytes: the sheet declares pollutant 5 or 6
- *     32       the output is shorter than the converted sheet
+ *     30                 the size is not 20 or 28
+ *     1 to 12, 16 to 18  the sheet is refused
+ *     31                 from 28 to 20 bytes: the sheet declares pollutant 5 or 6
+ *     32                 the output is shorter than the converted sheet
  */
 uint32_t conformity_convert(size_t size, const uint8_t *sheet, size_t sheet_length,
                             uint8_t *output, size_t output_length);
@@ -373,9 +391,9 @@ static inline const char *conformity_refusal_text(uint32_t number)
     case 0:
         return "nothing was refused";
     case CONFORMITY_REFUSED_LENGTH:
-        return "the sheet is empty, not a whole number of records, or longer than 740 bytes";
+        return "the sheet is empty, not a whole number of records, or longer than 760 bytes";
     case CONFORMITY_REFUSED_KIND:
-        return "the record's kind is not 1, 2 or 3";
+        return "the record's kind is not 1, 2, 3 or 5";
     case CONFORMITY_REFUSED_ORDER:
         return "the first record is no pollutant, a pollutant follows another kind, "
                "or a record follows the stop";
@@ -404,6 +422,13 @@ static inline const char *conformity_refusal_text(uint32_t number)
         return "the record is not 20 bytes long";
     case CONFORMITY_REFUSED_OUTPUT:
         return "the output is shorter than 20 bytes";
+    case CONFORMITY_REFUSED_SMALL_ENGINE:
+        return "the small engine is a second one, is not straight after the pollutants, "
+               "or is in plan 4";
+    case CONFORMITY_REFUSED_DATE:
+        return "the date is no day of the years 1 to 9999";
+    case CONFORMITY_REFUSED_PARTICULATE_LIMIT:
+        return "the particulate limit is not the one for the volume, speed and date: 250 or 150";
     case CONFORMITY_REFUSED_TESTS:
         return "there are no tests, or more than 3";
     case CONFORMITY_REFUSED_VALUE:
@@ -427,7 +452,7 @@ static inline const char *conformity_refusal_text_sized(size_t size, uint32_t nu
     if (size == CONFORMITY_RECORD_SIZE_28) {
         switch (number) {
         case CONFORMITY_REFUSED_LENGTH:
-            return "the sheet is empty, not a whole number of records, or longer than 1092 bytes";
+            return "the sheet is empty, not a whole number of records, or longer than 1120 bytes";
         case CONFORMITY_REFUSED_POLLUTANT:
             return "the pollutant number is not 1 to 6, or not above the one before";
         case CONFORMITY_REFUSED_RECORD:
@@ -445,9 +470,13 @@ static inline const char *conformity_refusal_text_sized(size_t size, uint32_t nu
 
 /*
  * A builder writes every byte of the record and checks nothing: conformity_append
- * does. A number too large for its field is written as the field's greatest, which
- * is refused, and never cut down to a smaller one that might be accepted. For a size
- * that is not 20 or 28 nothing is written, and the library refuses the size.
+ * does. A number too large for its field is written as the field's greatest, and
+ * never cut down to a smaller one that might be accepted. The field's greatest is
+ * refused, but for a small engine's volume and speed, which have no range: 65,535 is
+ * accepted there and stands for every number from 65,535 on. The rule asks whether
+ * the volume is under 700 and the speed above 3000, and so answers for 65,535 as it
+ * would for the larger number. For a size that is not 20 or 28 nothing is written, and
+ * the library refuses the size.
  */
 
 /* For the builders: `number`, or `greatest` where it is larger. */
@@ -521,6 +550,40 @@ static inline void conformity_pollutant_record(uint8_t record[CONFORMITY_RECORD_
 {
     conformity_pollutant_record_sized(CONFORMITY_RECORD_SIZE, record, pollutant, plan, limit,
                                       deviation);
+}
+
+/*
+ * A small engine: what the particulate limit depends on (96/1/EC, 8.1.1.1.1). At
+ * most once on a sheet, straight after the pollutants. Not in plan 4.
+ *     volume  swept volume per cylinder in cubic centimetres; any number
+ *     speed   rated speed per minute; any number
+ *     date    of the test, year * 10000 + month * 100 + day, so that 30 September
+ *             1998 is 19980930: a day of the Gregorian calendar, taken back to
+ *             year 1, in the years 1 to 9999
+ * Where the sheet declares particulates, their limit must be
+ *     CONFORMITY_PARTICULATE_LIMIT_SMALL_ENGINE
+ *             if the volume is under 700, the speed above 3000 and the date
+ *             19980930 or earlier
+ *     CONFORMITY_PARTICULATE_LIMIT
+ *             otherwise
+ * The other limits are not asked about.
+ */
+static inline void conformity_small_engine_record_sized(size_t size, uint8_t *record,
+                                                        uint32_t volume, uint32_t speed,
+                                                        uint32_t date)
+{
+    if (conformity_begin_(size, record, CONFORMITY_KIND_SMALL_ENGINE)) {
+        conformity_put_(record + 2, 2, conformity_at_most_(volume, 0xffffu));
+        conformity_put_(record + 4, 2, conformity_at_most_(speed, 0xffffu));
+        conformity_put_(record + 8, 4, date);
+    }
+}
+
+static inline void conformity_small_engine_record(uint8_t record[CONFORMITY_RECORD_SIZE],
+                                                  uint32_t volume, uint32_t speed,
+                                                  uint32_t date)
+{
+    conformity_small_engine_record_sized(CONFORMITY_RECORD_SIZE, record, volume, speed, date);
 }
 
 /*

@@ -18,11 +18,14 @@ static void byte(uint32_t x) {
     sheet[length++] = (uint8_t)x;
 }
 
-static void four(uint32_t x) {
+static void two(uint32_t x) {
     byte(x);
     byte(x >> 8);
-    byte(x >> 16);
-    byte(x >> 24);
+}
+
+static void four(uint32_t x) {
+    two(x);
+    two(x >> 16);
 }
 
 /* Zeros up to the end of the record. */
@@ -40,11 +43,21 @@ static void pollutant(uint32_t number, uint32_t plan, uint32_t limit, uint32_t d
     fill();
 }
 
+/* "Record kind 5": the swept volume per cylinder, the rated speed and the date. */
+static void small_engine(uint32_t volume, uint32_t speed, uint32_t date) {
+    byte(5);
+    byte(0);
+    two(volume);
+    two(speed);
+    two(0);
+    four(date);
+    fill();
+}
+
 static void four_measurements(uint32_t cause, uint32_t co, uint32_t hc, uint32_t nox, uint32_t pm) {
     byte(2);
     byte(0);
-    byte(cause);
-    byte(cause >> 8);
+    two(cause);
     four(co);
     four(hc);
     four(nox);
@@ -66,6 +79,11 @@ static void engine_of_six(uint32_t cause, uint32_t co, uint32_t hc, uint32_t nox
 /* Engines measured for pollutant 1 alone. */
 static void measured(int engines, uint32_t x) {
     while (engines-- > 0) engine(0, x, 0, 0, 0);
+}
+
+/* Engines measured for pollutant 4, particulates, alone. */
+static void particulates(int engines, uint32_t x) {
+    while (engines-- > 0) engine(0, 0, 0, 0, x);
 }
 
 /* So many times 4000, 1000. */
@@ -105,8 +123,8 @@ static void refused_at(const char *name, unsigned number, unsigned record) {
     sample(name, lines);
 }
 
-/* The same, and the record is what `what` says; NULL where none is named. */
-static void refused(const char *name, unsigned number, unsigned record, const char *what) {
+/* What `verdict` says of a refusal; the record is what `what` says, NULL where none is named. */
+static void said(const char *name, unsigned number, unsigned record, const char *what) {
     char why[256];
     const char *text = conformity_refusal_text(number);
     if (what == NULL)
@@ -114,6 +132,11 @@ static void refused(const char *name, unsigned number, unsigned record, const ch
     else
         snprintf(why, sizeof why, "verdict: record %u (%s): %s\n", record, what, text);
     put(name, "why", why, strlen(why));
+}
+
+/* Refused as above, and said where `verdict` reads the sheet. */
+static void refused(const char *name, unsigned number, unsigned record, const char *what) {
+    if (record_size == 20) said(name, number, record, what);
     refused_at(name, number, record);
 }
 
@@ -132,7 +155,7 @@ static void three(const char *name, uint32_t plan, uint32_t limit, uint32_t devi
 /* Document 01's own sheet. */
 static void example(void) {
     pollutant(4, 3, 150, 0);
-    for (int i = 0; i < 4; i++) engine(0, 0, 0, 0, 140);
+    particulates(4, 140);
     sample("example", "pass 4 1\n4 pass 4\n");
 }
 
@@ -252,9 +275,16 @@ static void others(void) {
     for (int n = 1; n <= 19; n++) measured(1, n % 2 == 0 ? 151 : 150);
     sample("attributes-9-of-19", "fail 19 1\n1 fail 19\n");
 
-    /* The longest sheet, 37 records: T is 0, which only the numbers of row 32 pass. The stop comes after the decision. */
+    /* The longest sheet without a small engine, 37 records: T is 0, which only the numbers of row 32 pass. The stop comes
+       after the decision. */
     for (uint32_t p = 1; p <= 4; p++) pollutant(p, 1, 1000, 1);
     for (int n = 1; n <= 32; n++) engine(0, 1000, 1000, 1000, 1000);
+    stop();
+    sample("longest-without-small-engine", "pass 32 1\n1 pass 32\n2 pass 32\n3 pass 32\n4 pass 32\n");
+    /* The longest sheet, 38 records, decided as the one without is. */
+    for (uint32_t p = 1; p <= 4; p++) pollutant(p, 1, 150, 1);
+    small_engine(700, 3000, 19981001);
+    for (int n = 1; n <= 32; n++) engine(0, 150, 150, 150, 150);
     stop();
     sample("longest", "pass 32 1\n1 pass 32\n2 pass 32\n3 pass 32\n4 pass 32\n");
 
@@ -282,8 +312,8 @@ static void refusals(void) {
     length--;
     refused("refused-01-not-whole", 1, 0, NULL);
     pollutant(1, 1, 4000, 625020);
-    measured(37, 2000);
-    refused("refused-01-38-records", 1, 0, NULL);
+    measured(38, 2000);
+    refused("refused-01-39-records", 1, 0, NULL);
     pollutant(1, 1, 4000, 625020);
     measured(399, 2000);
     refused("refused-01-400-records", 1, 0, NULL);
@@ -321,6 +351,9 @@ static void refusals(void) {
     pollutant(1, 3, 150, 0);
     measured(20, 150);
     refused("refused-10", 10, 20, "engine 20");
+    pollutant(1, 1, 4000, 625020);
+    measured(37, 2000);
+    refused("refused-10-38-records", 10, 33, "engine 33");
     pollutant(1, 4, 10000, 0);
     stop();
     refused("refused-11", 11, 1, "stop");
@@ -328,6 +361,93 @@ static void refusals(void) {
     stop();
     sheet[21] = 1;
     refused("refused-12", 12, 1, "stop");
+}
+
+/* Plan 3 and pollutant 4 with a limit, then a small engine. */
+static void small_engine_of(uint32_t limit, uint32_t volume, uint32_t speed, uint32_t date) {
+    pollutant(4, 3, limit, 0);
+    small_engine(volume, speed, date);
+}
+
+/* The same, and four engines that pass: "pass 4 1, pollutant 4: pass 4". */
+static void accepted_small_engine(const char *name, uint32_t limit, uint32_t volume, uint32_t speed, uint32_t date) {
+    small_engine_of(limit, volume, speed, date);
+    particulates(4, 140);
+    sample(name, "pass 4 1\n4 pass 4\n");
+}
+
+/* The same with this refusal of the small engine, which is record 1. */
+static void refused_small_engine(const char *name, unsigned number, uint32_t limit, uint32_t volume, uint32_t speed,
+                                 uint32_t date) {
+    small_engine_of(limit, volume, speed, date);
+    particulates(4, 140);
+    refused(name, number, 1, "small engine");
+}
+
+/* Document 02, F-1, in records of either size: the limit is "250 through 19980930 and 150 after". */
+static void small_engines(void) {
+    accepted_small_engine("small-engine-250", 250, 699, 3001, 19980930);
+    accepted_small_engine("small-engine-150", 150, 699, 3001, 19981001);
+
+    /* Of limit 150: 250 is above it three times of 3. */
+    small_engine_of(150, 699, 3001, 19981001);
+    particulates(3, 250);
+    sample("small-engine-150-fails", "fail 3 1\n4 fail 3\n");
+
+    refused_small_engine("refused-17", 17, 250, 699, 3001, 19980931);
+    refused_small_engine("refused-18", 18, 250, 699, 3001, 19981001);
+    small_engine_of(250, 699, 3001, 19980930);
+    small_engine(699, 3001, 19980930);
+    refused("refused-16-second", 16, 2, "small engine");
+    small_engine_of(250, 699, 3001, 19980930);
+    sheet[length - 1] = 1;
+    refused("refused-12-small-engine", 12, 1, "small engine");
+}
+
+/* "Under 700" and "above 3000 per minute": "every other engine has 150". Dates that are days, and numbers that are none. */
+static void small_engines_on_a_line(void) {
+    accepted_small_engine("small-engine-150-volume-700", 150, 700, 3001, 19980930);
+    accepted_small_engine("small-engine-150-speed-3000", 150, 699, 3000, 19980930);
+    accepted_small_engine("small-engine-150-zeros", 150, 0, 0, 10101);
+    accepted_small_engine("small-engine-250-19960229", 250, 0, 65535, 19960229);
+    refused_small_engine("refused-18-volume-700", 18, 250, 700, 3001, 19980930);
+    refused_small_engine("refused-18-speed-3000", 18, 250, 699, 3000, 19980930);
+    refused_small_engine("refused-18-limit-150", 18, 150, 699, 3001, 19980930);
+    refused_small_engine("refused-17-19000229", 17, 250, 699, 3001, 19000229);
+    refused_small_engine("refused-17-year-0", 17, 250, 699, 3001, 1231);
+    refused_small_engine("refused-17-year-10000", 17, 150, 699, 3001, 100000101);
+
+    /* Without pollutant 4 nothing is asked of a limit. */
+    pollutant(1, 2, 4000, 0);
+    small_engine(65535, 65535, 99991231);
+    measured(3, 4000);
+    sample("small-engine-without-particulates", PASS_AT_3);
+}
+
+/* Where a small engine stands: straight after the pollutants, once, and not in plan 4. */
+static void misplaced_small_engines(void) {
+    pollutant(4, 3, 250, 0);
+    small_engine(699, 3001, 19980930);
+    sheet[20] = 4;
+    refused("refused-02-kind-4", 2, 1, "kind 4");
+    small_engine(699, 3001, 19980930);
+    refused("refused-03-small-engine-first", 3, 0, "small engine");
+    pollutant(4, 3, 250, 0);
+    stop();
+    small_engine(699, 3001, 19980930);
+    refused("refused-03-small-engine-after-stop", 3, 2, "small engine");
+    pollutant(3, 3, 250, 0);
+    small_engine(699, 3001, 19980930);
+    pollutant(4, 3, 250, 0);
+    refused("refused-03-pollutant-after-small-engine", 3, 2, "pollutant 4");
+    pollutant(4, 3, 250, 0);
+    particulates(1, 140);
+    small_engine(699, 3001, 19980930);
+    refused("refused-16-after-engine", 16, 2, "small engine");
+    /* The date is no day either: 16 comes before 17. */
+    pollutant(4, 4, 250, 0);
+    small_engine(699, 3001, 0);
+    refused("refused-16-plan-4", 16, 1, "small engine");
 }
 
 /* Document 02, F-10: records of 28 bytes. */
@@ -364,22 +484,28 @@ static void six_pollutants(void) {
     engine_of_six(0, 900, 0, 0, 0, 1500, 1500);
     sample("gross-by-5-and-6", "fail 3 2\n1 open 0\n5 open 0\n6 open 0\n");
 
-    /* The longest sheet, 39 records, decided as the one of 20-byte records is. */
+    /* The longest sheets without a small engine, 39 records, and with one, 40, decided as those of 20-byte records are. */
     for (uint32_t p = 1; p <= 6; p++) pollutant(p, 1, 1000, 1);
     for (int n = 1; n <= 32; n++) engine_of_six(0, 1000, 1000, 1000, 1000, 1000, 1000);
+    stop();
+    sample("longest-without-small-engine",
+           "pass 32 1\n1 pass 32\n2 pass 32\n3 pass 32\n4 pass 32\n5 pass 32\n6 pass 32\n");
+    for (uint32_t p = 1; p <= 6; p++) pollutant(p, 1, 150, 1);
+    small_engine(700, 3000, 19981001);
+    for (int n = 1; n <= 32; n++) engine_of_six(0, 150, 150, 150, 150, 150, 150);
     stop();
     sample("longest", "pass 32 1\n1 pass 32\n2 pass 32\n3 pass 32\n4 pass 32\n5 pass 32\n6 pass 32\n");
 }
 
-/* Refusals in which the size counts: of 40 records, but not of 39, the number itself is refused. */
+/* Refusals in which the size counts: of 41 records, but not of 40, the number itself is refused. */
 static void refusals_of_28(void) {
     refused_at("refused-01-no-bytes", 1, 0);
     pollutant(1, 1, 4000, 625020);
     length -= 8;
     refused_at("refused-01-20-bytes", 1, 0);
     pollutant(1, 1, 4000, 625020);
-    measured(39, 2000);
-    refused_at("refused-01-40-records", 1, 0);
+    measured(40, 2000);
+    refused_at("refused-01-41-records", 1, 0);
     pollutant(7, 3, 150, 0);
     refused_at("refused-04", 4, 0);
     pollutant(5, 3, 150, 0);
@@ -389,8 +515,8 @@ static void refusals_of_28(void) {
     engine_of_six(0, 0, 0, 0, 0, 0, 1501);
     refused_at("refused-09", 9, 1);
     pollutant(1, 1, 4000, 625020);
-    measured(38, 2000);
-    refused_at("refused-10-39-records", 10, 33);
+    measured(39, 2000);
+    refused_at("refused-10-40-records", 10, 33);
     pollutant(1, 3, 150, 0);
     sheet[27] = 1;
     refused_at("refused-12-pollutant", 12, 0);
@@ -412,8 +538,12 @@ int main(int count, char **words) {
     finer();
     others();
     refusals();
+    small_engines();
+    small_engines_on_a_line();
+    misplaced_small_engines();
     record_size = 28;
     example();
+    small_engines();
     six_pollutants();
     refusals_of_28();
     return 0;

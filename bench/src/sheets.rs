@@ -34,6 +34,19 @@ pub fn typical(size: usize, plan: u8, count: usize) -> Vec<Vec<u8>> {
         .collect()
 }
 
+/// The sheet, of one pollutant, with a record of kind 5 behind it: 699 cm³, 3001 per minute, 30
+/// September 1998.
+pub fn with_small_engine(size: usize, sheet: &[u8]) -> Vec<u8> {
+    let mut small_engine = vec![5, 0];
+    small_engine.extend(699u16.to_le_bytes());
+    small_engine.extend(3001u16.to_le_bytes());
+    small_engine.extend([0, 0]);
+    small_engine.extend(19_980_930u32.to_le_bytes());
+    small_engine.resize(size, 0);
+    let (pollutant, engines) = sheet.split_at(size);
+    [pollutant, &small_engine, engines].concat()
+}
+
 /// A sheet of 37 records of 20 bytes whose last is refused, so that all are checked, none judged.
 pub fn refused_at_the_end() -> Vec<u8> {
     let mut sheet = full(FOUR_POLLUTANTS, 1, 32, 1).remove(0);

@@ -1,10 +1,10 @@
 -- The records of an accepted sheet, each of which has no fault after those before it.
-use Rattle.arithmetic.proofs.Basics.{ℕ, zero, suc, _*_, _%_, _≤_, arith, _≡_, refl, sym, _∙_, Bool, true, false, not, _&&_, _||_, cond, List, [], _∷_, _++_}
+use Rattle.arithmetic.proofs.Basics.{ℕ, zero, suc, _*_, _%_, _≤_, arith, _≡_, refl, sym, ap, _∙_, Bool, true, false, not, _&&_, _||_, cond, List, [], _∷_, _++_}
 use Rattle.arithmetic.proofs.Basics.{append-assoc, append-nil, eqb, leb, ltb, length, eqb-true, eqb-false, not-false, ne-eqb, lt-leb, ltb-false}
-use Rattle.arithmetic.proofs.Basics.{never, or-false, and-left, and-right, and-never, by-test, any-left, those-append}
+use Rattle.arithmetic.proofs.Basics.{never, or-false, and-left, and-right, and-never, by-test, any-left, any-last, those-append}
 use Rattle.rules.specs.Tools.{any, within}
-use Rattle.rules.specs.Sheet.{Record, size, most, records, pollutantKind, engineKind, stopKind, kind, ofKind, planNumber, declared, stopped}
-use Rattle.rules.specs.Refusals.{misplaced, badNumber, badPlan, badLimit, badDeviation, badMeasurement, badCause, tooMany, unused, Fault, fault, first, faults, faultOf}
+use Rattle.rules.specs.Sheet.{Record, size, most, records, pollutantKind, engineKind, stopKind, smallEngineKind, kind, ofKind, heading, planNumber, declared, stopped}
+use Rattle.rules.specs.Refusals.{isKind, misplaced, lastKind, badSmallEngine, badNumber, badPlan, badLimit, badDeviation, badMeasurement, badCause, tooMany, unused, Fault, fault, first, faults, faultOf}
 use Rattle.rules.specs.Refusals.{Check, accepted, refused, checkFrom, badLength, check}
 
 -- ---- each record has no fault after those before it
@@ -49,7 +49,7 @@ pub cond-accepted : (n : ℕ) (t : Bool) (c : Check) → cond t (refused n 0) c 
 cond-accepted n true c e = let z : true ≡ false = cc in never z
 cond-accepted n false c e = (refl, e)
 
--- "1, no bytes, a length not a multiple of 20, or over 740 bytes"
+-- refusal 1
 pub length-fine : (w n : ℕ) → badLength w n ≡ false → (1 ≤ n) × ((n % size w ≡ 0) × (n ≤ most w * size w))
 unfolding badLength
 length-fine w n e =
@@ -79,8 +79,9 @@ none (fault (suc k) true ∷ fs) e = absurd (omega arith)
 none (fault (suc k) false ∷ fs) e = (refl, none fs e)
 
 pub record Faultless (w : ℕ) (before : List Record) (r : Record) : Type 0 where
-  pub kinds : not (within pollutantKind stopKind (kind r)) ≡ false
+  pub kinds : not (isKind (kind r)) ≡ false
   pub placed : misplaced before r ≡ false
+  pub small : eqb (kind r) smallEngineKind ≡ true → badSmallEngine before ≡ false
   pub numbered : eqb (kind r) pollutantKind ≡ true → badNumber w before r ≡ false
   pub planned : eqb (kind r) pollutantKind ≡ true → badPlan before r ≡ false
   pub limited : eqb (kind r) pollutantKind ≡ true → badLimit r ≡ false
@@ -94,11 +95,13 @@ pub faultless : (w : ℕ) (before : List Record) (r : Record) → faultOf w befo
 unfolding faultOf faults
 faultless w before r e =
     let p : None (faults w before r) = none (faults w before r) e in
-    let of-pollutants = p .1 .1 in
+    let of-small-engines = p .1 .1 in
+    let of-pollutants = of-small-engines .1 .1 .1 in
     let of-engines = of-pollutants .1 .1 .1 .1 in
     record {
       kinds = p .0;
       placed = p .1 .0;
+      small = and-right _ _ (of-small-engines .0);
       numbered = and-right _ _ (of-pollutants .0);
       planned = and-right _ _ (of-pollutants .1 .0);
       limited = and-right _ _ (of-pollutants .1 .1 .0);
@@ -111,15 +114,20 @@ faultless w before r e =
 
 -- ---- the order of the kinds
 
-pub by-kind : {X : Type 0} (k : ℕ) → (k ≡ pollutantKind → X) → (k ≡ engineKind → X) → (k ≡ stopKind → X)
-    → (((n : ℕ) → 1 ≤ n → n ≤ stopKind → eqb k n ≡ false) → within pollutantKind stopKind k ≡ false → X) → X
-by-kind zero one two three other = other (λ n l u. ne-eqb 0 n (λ z. omega arith)) refl
-by-kind (suc zero) one two three other = one refl
-by-kind (suc (suc zero)) one two three other = two refl
-by-kind (suc (suc (suc zero))) one two three other = three refl
-by-kind (suc (suc (suc (suc k)))) one two three other =
-    let m = suc (suc (suc (suc k))) in
-    other (λ n l u. ne-eqb m n (λ z. omega arith)) (rw (lt-leb m stopKind (omega arith)) (and-never (leb pollutantKind m)))
+no-kind : {X : Type 0} (k : ℕ) → isKind k ≡ false → (((n : ℕ) → isKind n ≡ true → eqb k n ≡ false) → isKind k ≡ false → X) → X
+no-kind k e other = other (λ n h. ne-eqb k n (λ z. never (sym h ∙ rw z at e))) e
+
+pub by-kind : {X : Type 0} (k : ℕ) → (k ≡ pollutantKind → X) → (k ≡ engineKind → X) → (k ≡ stopKind → X) → (k ≡ smallEngineKind → X)
+    → (((n : ℕ) → isKind n ≡ true → eqb k n ≡ false) → isKind k ≡ false → X) → X
+by-kind zero one two three five other = no-kind 0 refl other
+by-kind (suc zero) one two three five other = one refl
+by-kind (suc (suc zero)) one two three five other = two refl
+by-kind (suc (suc (suc zero))) one two three five other = three refl
+by-kind (suc (suc (suc (suc zero)))) one two three five other = no-kind 4 refl other
+by-kind (suc (suc (suc (suc (suc zero))))) one two three five other = five refl
+by-kind (suc (suc (suc (suc (suc (suc k)))))) one two three five other =
+    let m = suc (suc (suc (suc (suc (suc k))))) in
+    no-kind m (rw (lt-leb m stopKind (omega arith), ne-eqb m smallEngineKind (λ z. omega arith), and-never (leb pollutantKind m)) refl) other
 
 abbrev pub isOther : Record → Bool
 isOther r = not (eqb (kind r) pollutantKind)
@@ -127,6 +135,11 @@ isOther r = not (eqb (kind r) pollutantKind)
 pub ofKind-append : (k : ℕ) (rs ts : List Record) → ofKind k (rs ++ ts) ≡ ofKind k rs ++ ofKind k ts
 unfolding ofKind
 ofKind-append k rs ts = those-append (λ r. eqb (kind r) k) rs ts
+
+pub last-kind : (before : List Record) (r : Record) → lastKind (before ++ (r ∷ [])) ≡ kind r
+last-kind [] r = refl
+last-kind (a ∷ []) r = refl
+last-kind (a ∷ b ∷ bs) r = last-kind (b ∷ bs) r
 
 -- a pollutant stands after pollutants alone, and nothing after a stop
 pub placed-so : (before : List Record) (r : Record) → misplaced before r ≡ false
@@ -142,6 +155,31 @@ no-pollutants w before [] a c = refl
 no-pollutants w before (r ∷ rs) a c =
     rw (and-left (eqb (kind r) pollutantKind) (any isOther before) (placed-so before r (faultless w before r (c .0) .placed) .0) a)
     (no-pollutants w (before ++ (r ∷ [])) rs (any-left isOther before (r ∷ []) a) (c .1))
+
+-- a small engine stands behind a pollutant
+small-engine-behind : (before : List Record) → badSmallEngine before ≡ false → not (eqb (lastKind before) pollutantKind) ≡ false
+unfolding badSmallEngine
+small-engine-behind before e =
+    or-false (any (λ b. eqb (kind b) smallEngineKind) before) (not (eqb (lastKind before) pollutantKind))
+    (or-false (any (λ b. eqb (kind b) smallEngineKind) before || not (eqb (lastKind before) pollutantKind)) _ e .0) .1
+
+-- after a record of another kind than a pollutant there are engines and a stop alone
+pub no-heading : (w : ℕ) (before : List Record) (r : Record) (rs : List Record) → isOther r ≡ true → Clean w (before ++ (r ∷ [])) rs → heading rs ≡ []
+unfolding heading
+no-heading w before r [] o c = refl
+no-heading w before r (a ∷ rs) o c =
+    let f = faultless w (before ++ (r ∷ [])) a (c .0) in
+    let rest : isOther a ≡ true → heading rs ≡ [] = λ q. no-heading w (before ++ (r ∷ [])) a rs q (c .1) in
+    by-kind (kind a)
+    (λ k.
+    let n : any isOther (before ++ (r ∷ [])) ≡ false = rw k at (placed-so (before ++ (r ∷ [])) a (f .placed) .0) in
+    never (sym (any-last isOther before r o) ∙ n))
+    (λ k. rw k (rest (rw k refl)))
+    (λ k. rw k (rest (rw k refl)))
+    (λ k.
+    let l = small-engine-behind (before ++ (r ∷ [])) (f .small (rw k refl)) in
+    never (sym o ∙ rw (last-kind before r) at l))
+    (λ n e. never (sym (ap not e) ∙ f .kinds))
 
 -- after a stop there is nothing
 pub nothing-after : (w : ℕ) (before rs : List Record) → stopped before ≡ true → Clean w before rs → rs ≡ []

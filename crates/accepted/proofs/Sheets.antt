@@ -2,14 +2,14 @@
 use Rattle.arithmetic.proofs.Basics.{ℕ, zero, suc, _+_, _*_, _/_, _≤_, _<_, mul-zero, mul-div-le, mul-le-mul-left, div-le-of-le-mul, arith, _≡_, refl, sym, ap, _∙_, Bool, true, false, cond, List, [], _∷_, _++_}
 use Rattle.arithmetic.proofs.Basics.{append-assoc, append-nil, eqb, length, getD, length-append, length-map, List·getD-append, List·getD-map, eqb-true}
 use Rattle.arithmetic.proofs.Basics.{not-false, leb-false, in-range, by-test}
-use Rattle.rules.specs.Sheet.{Record, morePollutants, size, most, records, pollutantKind, engineKind, stopKind, kind, plan, ofKind, engines, pollutant}
+use Rattle.rules.specs.Sheet.{Record, morePollutants, size, most, records, pollutantKind, engineKind, stopKind, smallEngineKind, kind, plan, ofKind, engines, pollutant}
 use Rattle.rules.specs.Sheet.{declared, planNumber}
 use Rattle.rules.specs.Plans.{Plan, knownDeviation, unknownDeviation, attributes, inService, corrected, planOf, lastRow, planCount, numberOf}
 use Rattle.rules.specs.Refusals.{misplaced, badPlan, tooMany}
 use Rattle.accepted.specs.Sheets.{recordAt, pollutantsIn, enginesIn, AcceptedSheet}
 use Rattle.accepted.proofs.Records.{record-at, whole-records, length-records}
 use Rattle.accepted.proofs.Faultless.{Clean, Sound, sound, faultless, ofKind-append}
-use Rattle.accepted.proofs.Engines.{layout, counts, engine-at}
+use Rattle.accepted.proofs.Engines.{layout, heading-parts, counts, engine-at}
 use Rattle.accepted.proofs.ByNumber.{InOrder, in-order}
 use Rattle.accepted.proofs.Causes.{Caused, causes, plan-append}
 
@@ -127,7 +127,7 @@ module _ {w : ℕ} {b : List ℕ} {plan : Plan} {start : ℕ} (s : AcceptedSheet
   all-records : length rs ≡ start + (length es + length (ofKind stopKind rs))
   all-records = rw (s .starts) (counts w rs clean)
 
-  -- pollutants and engines lie in the sheet
+  -- heading and engines lie in the sheet
   pub inside : size w * (start + length es) ≤ length b
   inside = rw all-bytes (mul-le-mul-left (size w) (omega (arith, all-records)))
 
@@ -136,23 +136,31 @@ module _ {w : ℕ} {b : List ℕ} {plan : Plan} {start : ℕ} (s : AcceptedSheet
       let k = div-le-of-le-mul (size w) {m = length b} {n = most w} (omega (arith, is-sound .longest)) in
       omega (arith, all-records, length-records w b, s .sized)
 
-  -- engine j is record start + j, and pollutant k is record k
+  -- engine j is record start + j, and pollutant k, which is in the heading, is record k
   pub engine-is : (j : ℕ) → j < length es → getD es j [] ≡ recordAt w b (start + j)
   engine-is j h =
       rw (← s .starts) at (engine-at w rs clean j h) ∙ record-at w b (start + j) (omega (arith, all-records, length-records w b))
 
-  pub declared-length : length (pollutantsIn w b) ≡ start
-  unfolding declared
-  declared-length = length-map (ofKind pollutantKind rs) pollutant ∙ sym (s .starts)
+  abbrev ps : List Record
+  ps = ofKind pollutantKind rs
 
-  pub pollutant-is : (k : ℕ) → k < start → getD (pollutantsIn w b) k (pollutant []) ≡ pollutant (recordAt w b k)
+  pub declared-first : length (pollutantsIn w b) ≤ start
+  unfolding declared
+  declared-first =
+      rw (length-map ps pollutant, s .starts, heading-parts w [] rs clean)
+      (omega (arith, length-append ps (ofKind smallEngineKind rs)))
+
+  pub pollutant-is : (k : ℕ) → k < length (pollutantsIn w b) → getD (pollutantsIn w b) k (pollutant []) ≡ pollutant (recordAt w b k)
   unfolding declared
   pollutant-is k h =
-      let l : k < length (ofKind pollutantKind rs) = rw (← (s .starts)) h in
-      List·getD-map pollutant (ofKind pollutantKind rs) k []
-      ∙ ap pollutant (sym (ap (λ (xs : List Record). getD xs k []) (layout w [] rs clean)
-      ∙ List·getD-append (ofKind pollutantKind rs) (ofKind engineKind rs ++ ofKind stopKind rs) [] k l)
-      ∙ record-at w b k (omega (arith, all-records, length-records w b)))
+      let l : k < length ps = rw (length-map ps pollutant) at h in
+      let m : k < length (ps ++ ofKind smallEngineKind rs) = omega (arith, length-append ps (ofKind smallEngineKind rs)) in
+      let whole = layout w [] rs clean in
+      List·getD-map pollutant ps k []
+      ∙ ap pollutant (sym (ap (λ (xs : List Record). getD xs k []) (rw (heading-parts w [] rs clean) at whole)
+      ∙ List·getD-append (ps ++ ofKind smallEngineKind rs) (ofKind engineKind rs ++ ofKind stopKind rs) [] k m
+      ∙ List·getD-append ps (ofKind smallEngineKind rs) [] k l)
+      ∙ record-at w b k (omega (arith, declared-first, all-records, length-records w b)))
 
   -- no more engines than rows
   pub rows-fit : length es ≤ lastRow plan

@@ -3,7 +3,7 @@ use Prim.Native.Nat.{ℕ, _*_, _≤_}
 use mathlib.Core.Path.{_≡_}
 use mathlib.Core.List.{List}
 use lib.ListN.{length, take, drop}
-use Rattle.rules.specs.Sheet.{Record, Pollutant, morePollutants, size, records, pollutantKind, ofKind, engines, declared, planNumber}
+use Rattle.rules.specs.Sheet.{Record, Pollutant, morePollutants, size, records, heading, engines, declared, planNumber}
 use Rattle.rules.specs.Plans.{Plan, planOf}
 use Rattle.rules.specs.Refusals.{accepted, check}
 
@@ -24,4 +24,4 @@ module _ (w : ℕ) (b : List ℕ) where
     pub sized : w ≤ morePollutants
     pub accepts : check w b ≡ accepted
     pub planned : plan ≡ planOf (planNumber (records w b))
-    pub starts : start ≡ length (ofKind pollutantKind (records w b))
+    pub starts : start ≡ length (heading (records w b))

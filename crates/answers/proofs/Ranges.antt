@@ -1,7 +1,7 @@
 -- The values of an answer: those of a refusal by the check, and those of a judgement by the engines and the pollutants.
-use Rattle.arithmetic.proofs.Basics.{ℕ, zero, suc, _+_, _≤_, _<_, div-le-of-le-mul, arith, _≡_, refl, _∙_, Bool, true, false, cond, List, [], _∷_, _++_, leb}
-use Rattle.arithmetic.proofs.Basics.{eqb, length, take, length-append, length-map, leb-true, eqb-false, and-true, by-test}
-use Rattle.rules.specs.Tools.{any, all}
+use Rattle.arithmetic.proofs.Basics.{ℕ, zero, suc, _+_, _≤_, _<_, div-le-of-le-mul, arith, _≡_, refl, _∙_, Bool, true, false, _||_, cond, List, [], _∷_, _++_, leb}
+use Rattle.arithmetic.proofs.Basics.{eqb, length, take, length-append, length-map, leb-true, and-true, by-test, never}
+use Rattle.rules.specs.Tools.{any, all, within}
 use Rattle.rules.specs.Sheet.{Record, Pollutant, size, most, records, numbers, engines, stopped, planNumber, declared}
 use Rattle.rules.specs.Plans.{Plan, planOf}
 use Rattle.rules.specs.Series.{Standing, Series, ongoing, passed, failed, referred, hasFailed, hasPassed, settleBy, settle}
@@ -12,23 +12,34 @@ use Rattle.accepted.proofs.Records.{length-records}
 use Rattle.accepted.proofs.Faultless.{length-fine}
 use Rattle.answers.proofs.Answers.{seriesOf, engineIn}
 
--- ---- a refusal: its number is 1 to 12, and its record one of n
+-- ---- a refusal: its number is 1 to 12 or 16 to 18, and its record one of n
+
+abbrev pub isRefusal : (number : ℕ) → Bool
+isRefusal n = within 1 12 n || within 16 18 n
 
 abbrev pub RefusalIn : (n : ℕ) → Check → Type 0
 RefusalIn n accepted = Unit {0}
-RefusalIn n (refused number place) = (1 ≤ number) × (number ≤ 12) × (place < n)
+RefusalIn n (refused number place) = (isRefusal number ≡ true) × (place < n)
 
-abbrev atMost : (m : ℕ) → Fault → Bool
-atMost m (fault number present) = leb number m
+-- so it fits a byte
+pub refusal-most : (number : ℕ) → isRefusal number ≡ true → (1 ≤ number) × (number ≤ 18)
+refusal-most n e =
+    by-test (λ t. t || within 16 18 n ≡ true → (1 ≤ n) × (n ≤ 18)) (within 1 12 n)
+    (λ h f. let t = and-true (leb 1 n) (leb n 12) h in (leb-true 1 n (t .0), omega (arith, leb-true n 12 (t .1))))
+    (λ h f. let t = and-true (leb 16 n) (leb n 18) f in (omega (arith, leb-true 16 n (t .0)), leb-true n 18 (t .1))) e
 
-first-most : (m : ℕ) (fs : List Fault) → all (atMost m) fs ≡ true → first fs ≤ m
-first-most m [] e = omega arith
-first-most m (fault k true ∷ fs) e = leb-true k m (and-true (leb k m) (all (atMost m) fs) e .0)
-first-most m (fault k false ∷ fs) e = first-most m fs (and-true (leb k m) (all (atMost m) fs) e .1)
+-- what holds of every number in a list of faults holds of the first that is present
+abbrev pub numbered : (test : ℕ → Bool) → Fault → Bool
+numbered test (fault number present) = test number
 
-fault-most : (w : ℕ) (before : List Record) (r : Record) → faultOf w before r ≤ 12
+pub first-such : (test : ℕ → Bool) (fs : List Fault) → all (numbered test) fs ≡ true → eqb (first fs) 0 ≡ false → test (first fs) ≡ true
+first-such test [] e o = never o
+first-such test (fault k true ∷ fs) e o = and-true (test k) (all (numbered test) fs) e .0
+first-such test (fault k false ∷ fs) e o = first-such test fs (and-true (test k) (all (numbered test) fs) e .1) o
+
+fault-refusal : (w : ℕ) (before : List Record) (r : Record) → eqb (faultOf w before r) 0 ≡ false → isRefusal (faultOf w before r) ≡ true
 unfolding faultOf faults
-fault-most w before r = first-most 12 (faults w before r) refl
+fault-refusal w before r o = first-such isRefusal (faults w before r) refl o
 
 from-range : (w n : ℕ) (before rs : List Record) → length before + length rs ≤ n → RefusalIn n (checkFrom w before rs)
 unfolding checkFrom
@@ -37,13 +48,13 @@ from-range w n before (r ∷ rs) h =
     by-test (λ t. RefusalIn n (cond t (checkFrom w (before ++ (r ∷ [])) rs) (refused (faultOf w before r) (length before))))
     (eqb (faultOf w before r) 0)
     (λ e. from-range w n (before ++ (r ∷ [])) rs (rw length-append (omega arith)))
-    (λ e. let o = eqb-false (faultOf w before r) 0 e in (omega arith, fault-most w before r, omega arith))
+    (λ e. (fault-refusal w before r e, omega arith))
 
 pub check-range : (w : ℕ) (b : List ℕ) → RefusalIn (most w) (check w b)
 unfolding check
 check-range w b =
     by-test (λ t. RefusalIn (most w) (cond t (refused 1 0) (checkFrom w [] (records w b)))) (badLength w (length b))
-    (λ e. (omega arith, omega arith, omega arith))
+    (λ e. (refl, omega arith))
     (λ e.
     let l = length-fine w (length b) e .1 .1 in
     let k = div-le-of-le-mul (size w) {m = length b} {n = most w} (omega arith) in

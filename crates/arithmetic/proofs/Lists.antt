@@ -66,7 +66,7 @@ pub any-same : {A : Type 0} (f h : A → Bool) → ((x : A) → h x ≡ f x) →
 any-same f h i [] = refl
 any-same f h i (x ∷ xs) = rw (i x, any-same f h i xs) refl
 
-any-implies : {A : Type 0} (f h : A → Bool) → ((x : A) → f x ≡ true → h x ≡ true) → (xs : List A) → any f xs ≡ true → any h xs ≡ true
+pub any-implies : {A : Type 0} (f h : A → Bool) → ((x : A) → f x ≡ true → h x ≡ true) → (xs : List A) → any f xs ≡ true → any h xs ≡ true
 any-implies f h i [] e = e
 any-implies f h i (x ∷ xs) e = or-follows (f x) (any f xs) (h x) (any h xs) (i x) (any-implies f h i xs) e
 

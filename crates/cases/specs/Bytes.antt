@@ -3,7 +3,10 @@ use Prim.Native.Nat.{ℕ, zero, suc, _/_, _%_}
 use mathlib.Core.List.{List, [], _∷_, _++_}
 use lib.ListN.{replicate}
 
--- a number in four bytes, little-endian
+-- a number in two bytes and in four, little-endian
+abbrev pub u16 : ℕ → List ℕ
+u16 x = x % 256 ∷ x / 256 ∷ []
+
 abbrev pub u32 : ℕ → List ℕ
 u32 x = x % 256 ∷ x / 256 % 256 ∷ x / 65536 % 256 ∷ x / 16777216 ∷ []
 
@@ -13,7 +16,7 @@ pollutant p plan L t = (1 ∷ p ∷ plan ∷ 0 ∷ []) ++ u32 L ++ u32 t ++ repl
 
 -- kind 2
 abbrev pub engine : (cause x₁ x₂ x₃ x₄ : ℕ) → List ℕ
-engine c x₁ x₂ x₃ x₄ = (2 ∷ 0 ∷ c % 256 ∷ c / 256 ∷ []) ++ u32 x₁ ++ u32 x₂ ++ u32 x₃ ++ u32 x₄
+engine c x₁ x₂ x₃ x₄ = (2 ∷ 0 ∷ []) ++ u16 c ++ u32 x₁ ++ u32 x₂ ++ u32 x₃ ++ u32 x₄
 
 -- an engine measured for pollutant 1 alone
 abbrev pub measured : ℕ → List ℕ
@@ -29,6 +32,10 @@ six c x₁ x₂ x₃ x₄ x₅ x₆ = engine c x₁ x₂ x₃ x₄ ++ u32 x₅ +
 -- kind 3
 abbrev pub stop : List ℕ
 stop = 3 ∷ replicate 19 0
+
+-- kind 5, of 02, F-1
+abbrev pub smallEngine : (volume speed date : ℕ) → List ℕ
+smallEngine v n d = (5 ∷ 0 ∷ []) ++ u16 v ++ u16 n ++ (0 ∷ 0 ∷ []) ++ u32 d ++ replicate 8 0
 
 abbrev pub times : ℕ → List ℕ → List ℕ
 times zero b = []

@@ -5,4 +5,5 @@ pub mod Table
 pub mod Corrected
 pub mod Finer
 pub mod Sizes
+pub mod SmallEngines
 pub mod DeclaredValue

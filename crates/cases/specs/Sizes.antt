@@ -10,7 +10,7 @@ use Rattle.rules.specs.Refusals.{Check, accepted, refused}
 use Rattle.rules.specs.Operations.{evidence, noRoom, joined, append, appended, report, reported}
 use Rattle.rules.specs.Sizes.{judgeSized, evidenceSized, appendSized, appendedSized, reportSized, reportedSized}
 use Rattle.rules.specs.Converter.{widen, narrow, declaresAbove, convert, converted, addedPollutants}
-use Rattle.cases.specs.Bytes.{pollutant, engine, wide, six, stop, times}
+use Rattle.cases.specs.Bytes.{pollutant, engine, smallEngine, wide, six, stop, times}
 use Rattle.cases.specs.Judged.{judged}
 use Rattle.cases.specs.Table.{Case, _↦→_}
 
@@ -25,11 +25,12 @@ example = pollutant 4 3 150 0 ++ times 4 (engine 0 0 0 0 140)
 abbrev wideExample : List ℕ
 wideExample = wide (pollutant 4 3 150 0) ++ times 4 (wide (engine 0 0 0 0 140))
 
--- as many records as there may be, 39: the six pollutants, 32 engines and a stop
+-- as many records as there may be, 40: the six pollutants, a small engine, 32 engines and a stop
 abbrev longest : List ℕ
 longest =
-    wide (pollutant 1 2 1000 0) ++ wide (pollutant 2 2 1000 0) ++ wide (pollutant 3 2 1000 0) ++ wide (pollutant 4 2 1000 0)
-    ++ wide (pollutant 5 2 1000 0) ++ wide (pollutant 6 2 1000 0) ++ times 32 (six 0 1000 1000 1000 1000 1000 1000) ++ wide stop
+    wide (pollutant 1 2 1000 0) ++ wide (pollutant 2 2 1000 0) ++ wide (pollutant 3 2 1000 0) ++ wide (pollutant 4 2 150 0)
+    ++ wide (pollutant 5 2 1000 0) ++ wide (pollutant 6 2 1000 0) ++ wide (smallEngine 700 3000 19980930)
+    ++ times 32 (six 0 1000 1000 1000 150 1000 1000) ++ wide stop
 
 -- ---- judging
 
@@ -47,7 +48,7 @@ table =
     ∷ (wide (pollutant 6 4 1000 0) ++ six 7 0 0 0 0 0 1501 ↦→ noneDecided 1)
     ∷ (wide (pollutant 5 4 1000 0) ++ six 0 0 0 0 0 1500 0 ↦→ noneDecided 1)
     ∷ (wide (pollutant 5 4 1000 0) ++ six 0 0 0 0 0 1501 0 ↦→ refusal 9 1)
-    -- 39 records have room, and 40 are refused by their length
+    -- 40 records have room, and 41 are refused by their length
     ∷ (longest ↦→ judgement 1 3 1 (replicate 6 (pair 1 3)))
     ∷ (longest ++ wide stop ↦→ refusal 1 0)
     -- refusal 1: records of 20 bytes

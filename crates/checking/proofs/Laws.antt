@@ -106,6 +106,9 @@ module _ {z : Size} {b : List ℕ} {s : Summary} (v : Valid z b s) where
   pub accepted-so : AcceptedSheet (widthIs z) b (planOf (s .plan)) (s .head)
   accepted-so = record { sized = width-range z .1; accepts = v .accepts; planned = rw (says-so .planIs) refl; starts = says-so .headIs }
 
+  pub pollutants-are : s .pollutants ≡ length (pollutantsIn (widthIs z) b)
+  pollutants-are = says-so .pollutantsIs
+
   pub limits-are : (p : ℕ) → quantity (s .limits) p ≡ limitOf p (pollutantsIn (widthIs z) b)
   limits-are = says-so .limitIs
 

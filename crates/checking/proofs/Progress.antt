@@ -1,7 +1,7 @@
 -- The check of records after others, a record at a time: what is left to check is the answer.
-use Rattle.arithmetic.proofs.Basics.{ℕ, suc, _+_, _/_, _≤_, _<_, add-zero, add-suc, add-one, div-le-of-le-mul, arith, _≡_, refl, sym, ap, _∙_, cond, List, [], _∷_, _++_}
+use Rattle.arithmetic.proofs.Basics.{ℕ, suc, _+_, _*_, _/_, _≤_, _<_, add-zero, add-suc, add-one, div-le-of-le-mul, arith, _≡_, refl, sym, ap, _∙_, cond, List, [], _∷_, _++_}
 use Rattle.arithmetic.proofs.Basics.{eqb, length, length-append, drop, drop-of-length-le, drop-cons, ne-eqb}
-use Rattle.rules.specs.Sheet.{Record, size, most, records}
+use Rattle.rules.specs.Sheet.{Record, morePollutants, size, most, records}
 use Rattle.accepted.specs.Sheets.{recordAt}
 use Rattle.accepted.proofs.Records.{record-at, length-records}
 use Rattle.accepted.proofs.Faultless.{clean-of}
@@ -44,7 +44,7 @@ module _ {z : Size} {s : Summary} {first : ℕ} (b : List ℕ) (k : ℕ) {t : Su
 
   module _ (h : k < length b / size (widthIs z)) where
     -- the records so far are few
-    pub few : AfterRanges z s first (length b) → first + k < 78
+    pub few : AfterRanges z s first (length b) → first + k < 2 * most morePollutants
     few a =
         let l = div-le-of-le-mul (size (widthIs z)) {m = length b} {n = most (widthIs z)} (omega (arith, a .length)) in
         omega (arith, a .place, width-range z)
@@ -53,7 +53,7 @@ module _ {z : Size} {s : Summary} {first : ℕ} (b : List ℕ) (k : ℕ) {t : Su
     room a =
         let c = counts-fit (g .agrees) in
         let m = g .many in
-        record { head = omega (arith, few a); engines = omega (arith, few a) }
+        record { pollutants = omega (arith, few a); head = omega (arith, few a); engines = omega (arith, few a) }
 
     module _ {r : Record} {n : ℕ} (e : r ≡ recordAt (widthIs z) b k) (f : n ≡ faultBy z t r) where
       split : drop k rs ≡ r ∷ drop (suc k) rs

@@ -1,4 +1,4 @@
-// The check of a sheet: the first faulty record and in it the lowest refusal number, or what the sheet says.
+// The check of a sheet: the first faulty record and in it the first refusal in their order, or what the sheet says.
 ghost use mathlib.Core.Path.{_≡_};
 ghost use Prim.Native.Nat.{_+_, _*_};
 ghost use lib.ListN.{length};
@@ -48,7 +48,7 @@ pub enum Checked {
     Refused(Refusal),
 }
 
-// "1, no bytes, a length not a multiple of 20, or over 740 bytes", by the size
+// "1, no bytes, a length not a multiple of 20, or over" 760 "bytes", by the size; 02, F-1: "A sheet may hold 38 records."
 fn bad_length(size: Size, n: usize) -> bool
     ensures { λ b. ⌜ b ≡ badLength (widthIs size) n ⌝ }
 {
@@ -62,7 +62,7 @@ fn refused_length() -> Checked
     Checked::Refused(Refusal::of_no_record(1))
 }
 
-// "Then the first faulty record, and in it the lowest", of records that stand after those of which `before` tells.
+// "Then the first faulty record", and in it the first refusal, of records that stand after those of which `before` tells.
 // The first of them is record `first`. A whole sheet stands after nothing.
 // One loop for it and for bytes behind another: so the faults are looked for in one place, and the compiler puts them into the loop.
 fn check_after(size: Size, before: Summary, first: usize, bytes: &[u8]) -> Checked
@@ -87,7 +87,7 @@ fn check_after(size: Size, before: Summary, first: usize, bytes: &[u8]) -> Check
     Checked::Accepted(summary)
 }
 
-// The check of a whole sheet: refusals 1 to 12, "the first faulty record, and in it the lowest".
+// The check of a whole sheet: 1, and then "the first faulty record".
 pub fn check_sheet(size: Size, bytes: &[u8]) -> Checked
     ensures { λ c. ⌜ c ≡ checkedOf size (now (bytes .entry)) ⌝ }
 {

@@ -1,9 +1,9 @@
 -- Demand 1, "any bytes of any length are judged, or refused with a number and a record": every list of bytes is refused with a
--- number 1 to 12 and a record below the greatest number of records, or judged with a verdict 0 to 3, an engine at most the last row,
--- a ground 0 to 4 and a pair for each pollutant; a judgement only where the check accepts.
+-- number 1 to 12 or 16 to 18 and a record below the greatest number of records, or judged with a verdict 0 to 3, an engine at most the
+-- last row, a ground 0 to 4 and a pair for each pollutant; a judgement only where the check accepts.
 -- Every list of bytes is meant, whatever w and q; the product's are at the end. (That "a refused call writes to no buffer" is in the
 -- contracts of `operations`.)
-use Rattle.arithmetic.proofs.Basics.{ℕ, _≤_, _<_, le-trans, arith, _≡_, refl, sym, ap, _∙_, _⊎_, inl, inr, List, [], length}
+use Rattle.arithmetic.proofs.Basics.{ℕ, _≤_, _<_, le-trans, arith, _≡_, refl, sym, ap, _∙_, true, _⊎_, inl, inr, List, [], length}
 use Rattle.rules.specs.Logarithm.{squarings}
 use Rattle.rules.specs.Sheet.{pollutants, morePollutants, most, records, ofKind}
 use Rattle.rules.specs.Plans.{lastRow}
@@ -14,15 +14,15 @@ use Rattle.rules.specs.Demands.{enginesOf, planOfSheet}
 use Rattle.accepted.proofs.Faultless.{sound}
 use Rattle.accepted.proofs.Sheets.{engines-after}
 use Rattle.answers.proofs.Answers.{checkIn, judge-check, judge-accepted, judgement-accepted}
-use Rattle.answers.proofs.Ranges.{RefusalIn, check-range, JudgementIn, judgement-range}
+use Rattle.answers.proofs.Ranges.{isRefusal, RefusalIn, check-range, JudgementIn, judgement-range}
 
 module _ (w q : ℕ) where
-  -- refusals "1 to 12": "It returns number and record counted from 0", of records "at most 37"
+  -- refusals "1 to 12", and 16 to 18 of 02, F-1: "It returns number and record counted from 0", of records "at most 37", with F-1 38
   abbrev pub Refused : List ℕ → Type 0
   Refused b =
       (number : ℕ) × (place : ℕ)
       × (judge w q b ≡ refusal number place) × (check w b ≡ refused number place)
-      × (1 ≤ number) × (number ≤ 12) × (place < most w)
+      × (isRefusal number ≡ true) × (place < most w)
 
   -- "Judging answers verdict (0 another .. 3 referred), engine .., ground (0 none .. 4 referred) and for each pollutant decision .. and
   -- engine": v, n, ground and the pairs, and only for a sheet that the check accepts
@@ -44,7 +44,7 @@ module _ (w q : ℕ) where
       cases (refusal number place) e =
           let c : check w b ≡ refused number place = sym (judge-check w q b) ∙ ap checkIn e in
           let r : RefusalIn (most w) (refused number place) = rw c at (check-range w b) in
-          inl (number, place, e, c, r .0, r .1, r .2)
+          inl (number, place, e, c, r .0, r .1)
       cases (judgement v n ground pairs) e =
           let c = judgement-accepted w q b e in
           let r : JudgementIn w (enginesOf w b) (judgement v n ground pairs) =

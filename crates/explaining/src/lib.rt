@@ -42,6 +42,7 @@ fn with_name(lines: Lines, step: Step, engine: u32) -> Lines
         Step::Pollutant { number, .. } => lines.with_word(b"pollutant ").with_number(number),
         Step::Engine { .. } => lines.with_word(b"engine ").with_number(engine),
         Step::Stop => lines.with_word(b"stop"),
+        Step::SmallEngine { .. } => lines.with_word(b"small engine"),
         Step::Other { kind } => lines.with_word(b"kind ").with_number(kind),
         Step::End => lines.with_word(b"end"),
     }
@@ -87,15 +88,15 @@ fn with_line(lines: Lines, text: &[u8], number: u8) -> Lines
     lines
 }
 
-// What the refusal of that number means, a line each. Those of a sheet are 1 to 12, and there is no 0.
+// What the refusal of that number means, a line each. Those of a sheet are 1 to 12 and 16 to 18, and the line of any other number is empty.
 fn with_sentence(lines: Lines, number: u8) -> Lines
     ensures { λ l. ⌜ Adds lines l (sentence number) 100 ⌝ }
 {
     with_line(
         lines,
         b"\n\
-        the sheet is empty, not a whole number of records, or longer than 740 bytes\n\
-        the record's kind is not 1, 2 or 3\n\
+        the sheet is empty, not a whole number of records, or longer than 760 bytes\n\
+        the record's kind is not 1, 2, 3 or 5\n\
         the first record is no pollutant, a pollutant follows another kind, or a record follows the stop\n\
         the pollutant number is not 1 to 4, or not above the one before\n\
         the plan is not 1 to 5, or unlike the first pollutant's\n\
@@ -105,7 +106,13 @@ fn with_sentence(lines: Lines, number: u8) -> Lines
         the cause is not 1 to 65534 for a gross emitter in plan 4, or not 0 for any other engine\n\
         there are more engines than the plan's last row\n\
         plan 4 knows no stop by the manufacturer\n\
-        a byte that must be zero is not\n",
+        a byte that must be zero is not\n\
+        \n\
+        \n\
+        \n\
+        the small engine is a second one, is not straight after the pollutants, or is in plan 4\n\
+        the date is no day of the years 1 to 9999\n\
+        the particulate limit is not the one for the volume, speed and date: 250 or 150\n",
         number,
     )
 }

@@ -1,15 +1,15 @@
 -- What the program keeps of the records before one is enough: the refusal by it is document 01's, which looks back at their list.
 use Rattle.arithmetic.proofs.Basics.{ℕ, _+_, _≤_, arith, _≡_, refl, sym, ap, _∙_, Bool, true, false, not, _&&_, _||_, cond, List, [], _∷_, _++_, ltb, eqb}
-use Rattle.arithmetic.proofs.Basics.{length, length-append, eqb-true, eqb-false, ne-eqb, eq-eqb, not-false, lt-ltb, never, or-false, or-same, or-true}
-use Rattle.arithmetic.proofs.Basics.{in-range, and-right, by-test, any-snoc}
-use Rattle.rules.specs.Tools.{any, within}
-use Rattle.rules.specs.Sheet.{Record, pollutantKind, engineKind, stopKind, kind, number, plan, limit, ofKind, engines, stopped, planNumber}
+use Rattle.arithmetic.proofs.Basics.{length, length-append, length-map, eqb-true, eqb-false, ne-eqb, eq-eqb, not-false, lt-ltb, never, or-false, or-same, or-true}
+use Rattle.arithmetic.proofs.Basics.{and-right, by-test, any-snoc, any-implies, ltb-true, those-append}
+use Rattle.rules.specs.Tools.{any, those, within}
+use Rattle.rules.specs.Sheet.{Record, pollutantKind, engineKind, stopKind, smallEngineKind, kind, number, plan, limit, ofKind, heading, engines, stopped, planNumber}
 use Rattle.rules.specs.Sheet.{pollutant, declared}
-use Rattle.rules.specs.Plans.{planOf, lastRow, planCount}
-use Rattle.rules.specs.Refusals.{misplaced, newest, badNumber, badPlan, badLimit, badDeviation, badCause, tooMany, Fault, fault, first, faults, faultOf}
-use Rattle.accepted.proofs.Faultless.{Clean, clean-join, Faultless, faultless, by-kind, isOther, ofKind-append, placed-so}
+use Rattle.rules.specs.Plans.{inService, planOf, lastRow, planCount, numberOf}
+use Rattle.rules.specs.Refusals.{isKind, misplaced, lastKind, badSmallEngine, newest, badNumber, badPlan, badLimit, badDeviation, badCause, tooMany, Fault, fault, first, faults, faultOf}
+use Rattle.accepted.proofs.Faultless.{Clean, clean-join, Faultless, faultless, by-kind, isOther, last-kind, placed-so}
 use Rattle.accepted.proofs.Causes.{plan-append}
-use Rattle.accepted.proofs.Engines.{counts}
+use Rattle.accepted.proofs.Engines.{heading-parts, counts}
 use Rattle.accepted.proofs.ByNumber.{limitOf, InOrder, in-order, declared-one, declared-other, newest-snoc, limit-most}
 use Rattle.record.specs.declared.Size.{Size}
 use Rattle.record.specs.Sizes.{widthIs}
@@ -17,9 +17,9 @@ use Rattle.record.specs.Quantities.{quantity, quantitiesWith}
 use Rattle.record.proofs.Sizes.{width-range}
 use Rattle.faults.specs.declared.Summary.{Summary}
 use Rattle.faults.specs.State.{nothing, summaryWith, LimitRange, Limits}
-use Rattle.faults.specs.Faults.{badMeasurementBy, badBehind, badCauseBy, pollutantBy, pollutantFault, engineFault, stopFault, faultBy}
-use Rattle.faults.proofs.Unused.{pollutant-unused, engine-unused, stop-unused}
-use Rattle.faults.proofs.Declared.{zero-quantity, quantity-with, order-last, limit-snoc, measurement-agrees, gross-agrees}
+use Rattle.faults.specs.Faults.{misplacesOthers, unusedFromTwelve, badMeasurementBy, badBehind, badCauseBy, badSmallEngineBy, pollutantBy, pollutantFault, engineFault, stopFault, smallEngineFault, faultBy}
+use Rattle.faults.proofs.ZeroBytes.{pollutant-unused, engine-unused, stop-unused, small-engine-unused}
+use Rattle.faults.proofs.Declared.{zero-quantity, quantity-with, order-last, limit-snoc, measurement-agrees, particulate-agrees, gross-agrees}
 
 abbrev pub isEmpty : List Record → Bool
 isEmpty [] = true
@@ -28,6 +28,7 @@ isEmpty (r ∷ rs) = false
 -- the records before, of the size z, have no fault, and the summary s says of them what is asked of them
 pub record Agrees (z : Size) (before : List Record) (s : Summary) : Type 0 where
   pub clean : Clean (widthIs z) [] before
+  pub kindIs : s .kind ≡ lastKind before
   pub emptyIs : eqb (s .kind) 0 ≡ isEmpty before
   pub otherIs : ltb pollutantKind (s .kind) ≡ any isOther before
   pub stoppedIs : eqb (s .kind) stopKind ≡ stopped before
@@ -35,14 +36,16 @@ pub record Agrees (z : Size) (before : List Record) (s : Summary) : Type 0 where
   pub lastRowIs : eqb (s .kind) 0 ≡ false → s .«last_row» ≡ lastRow (planOf (s .plan))
   pub numberIs : s .number ≡ newest (declared before)
   pub limitIs : (p : ℕ) → quantity (s .limits) p ≡ limitOf p (declared before)
-  pub headIs : s .head ≡ length (ofKind pollutantKind before)
+  pub pollutantsIs : s .pollutants ≡ length (declared before)
+  pub headIs : s .head ≡ length (heading before)
   pub enginesIs : s .engines ≡ length (engines before)
 
 pub start : (z : Size) → Agrees z [] nothing
-unfolding planNumber plan declared ofKind planOf
+unfolding planNumber plan declared ofKind heading planOf
 start z =
     record {
       clean = tt;
+      kindIs = refl;
       emptyIs = refl;
       otherIs = refl;
       stoppedIs = refl;
@@ -50,15 +53,16 @@ start z =
       lastRowIs = λ e. never e;
       numberIs = refl;
       limitIs = zero-quantity;
+      pollutantsIs = refl;
       headIs = refl;
       enginesIs = refl;
     }
 
 -- ---- each test that looks back
 
--- 3, of an engine or a stop
+-- 3, of another kind than a pollutant
 misplaced-agrees : {z : Size} (before : List Record) (s : Summary) → Agrees z before s → (r : Record) → eqb (kind r) pollutantKind ≡ false
-    → eqb (s .kind) 0 || eqb (s .kind) stopKind ≡ misplaced before r
+    → misplacesOthers s ≡ misplaced before r
 unfolding misplaced
 misplaced-agrees [] s a r e = rw (a .emptyIs, e) refl
 misplaced-agrees (b ∷ before) s a r e = rw (a .emptyIs, a .stoppedIs, e) refl
@@ -75,6 +79,19 @@ late-agrees (b ∷ before) s a r e = stop-too (s .kind) ∙ rw (a .otherIs, a .s
         by-test (λ t. ltb pollutantKind k ≡ ltb pollutantKind k || t) (eqb k stopKind) (λ q. rw (eqb-true k stopKind q) refl)
         (λ q. sym (or-same (ltb pollutantKind k)))
 
+-- 16: a small engine before is of another kind than a pollutant, and then so is the last record
+small-agrees : {z : Size} (before : List Record) (s : Summary) → Agrees z before s → badSmallEngineBy s ≡ badSmallEngine before
+unfolding badSmallEngine
+small-agrees before s a =
+    let isSmall : Record → Bool = λ b. eqb (kind b) smallEngineKind in
+    rw (← a .kindIs, ← a .planIs)
+    (by-test (λ t. badSmallEngineBy s ≡ t || not (eqb (s .kind) pollutantKind) || eqb (s .plan) (numberOf inService)) (any isSmall before)
+    (λ e.
+    let o = any-implies isSmall isOther (λ b q. rw (eqb-true (kind b) smallEngineKind q) refl) before e in
+    let l = ltb-true pollutantKind (s .kind) (a .otherIs ∙ o) in
+    rw (ne-eqb (s .kind) pollutantKind (λ z. omega arith)) refl)
+    (λ e. refl))
+
 plan-agrees : {z : Size} (before : List Record) (s : Summary) → Agrees z before s → (r : Record)
     → not (within 1 planCount (plan r)) || not (eqb (s .kind) 0) && not (eqb (plan r) (s .plan)) ≡ badPlan before r
 unfolding badPlan
@@ -89,7 +106,7 @@ either : (t x y : Bool) → t && x || not t && y ≡ cond t x y
 either true x y = or-same x
 either false x y = refl
 
--- ---- the lowest of them
+-- ---- the first of them
 
 first-fault : (n : ℕ) (b : Bool) (fs : List Fault) → first (fault n b ∷ fs) ≡ cond b n (first fs)
 first-fault n true fs = refl
@@ -113,11 +130,15 @@ module _ {z : Size} {before : List Record} {s : Summary} (a : Agrees z before s)
       fits : (p : ℕ) → LimitRange (quantity (s .limits) p)
       fits p = record { most = rw (a .limitIs p) (limit-most (widthIs z) 0 (declared before) order p) }
 
-  pub counts-fit : s .head + s .engines ≤ length before
-  counts-fit = omega (arith, a .headIs, a .enginesIs, counts (widthIs z) before (a .clean))
+  pub counts-fit : (s .pollutants ≤ s .head) × (s .head + s .engines ≤ length before)
+  unfolding declared
+  counts-fit =
+      let ps : List Record = ofKind pollutantKind before in
+      let parts = ap length (heading-parts (widthIs z) [] before (a .clean)) ∙ length-append ps (ofKind smallEngineKind before) in
+      (omega (arith, a .pollutantsIs, length-map ps pollutant, a .headIs, parts), omega (arith, a .headIs, a .enginesIs, counts (widthIs z) before (a .clean)))
 
   module _ (r : Record) where
-    pollutant-agrees : kind r ≡ pollutantKind → pollutantFault z s r ≡ faultOf (widthIs z) before r
+    pollutant-agrees : kind r ≡ pollutantKind → pollutantFault z s r (unusedFromTwelve z r) ≡ faultOf (widthIs z) before r
     unfolding pollutantFault pollutantBy faultOf faults badNumber badLimit badDeviation
     pollutant-agrees k =
         rw (late-agrees before s a r (eq-eqb (kind r) pollutantKind k), a .numberIs, plan-agrees before s a r, either, pollutant-unused r z k, k)
@@ -147,21 +168,34 @@ module _ {z : Size} {before : List Record} {s : Summary} (a : Agrees z before s)
         )
         (simp first-fault))
 
-    stop-agrees : kind r ≡ stopKind → stopFault z s r ≡ faultOf (widthIs z) before r
+    stop-agrees : kind r ≡ stopKind → stopFault s r (unusedFromTwelve z r) ≡ faultOf (widthIs z) before r
     unfolding stopFault faultOf faults
     stop-agrees k =
         let other : eqb (kind r) pollutantKind ≡ false = rw k refl in
         rw (misplaced-agrees before s a r other, a .planIs, stop-unused r z k, k) (simp first-fault)
 
-    no-kind : within pollutantKind stopKind (kind r) ≡ false → 2 ≡ faultOf (widthIs z) before r
+    small-engine-agrees : kind r ≡ smallEngineKind → smallEngineFault s r (unusedFromTwelve z r) ≡ faultOf (widthIs z) before r
+    unfolding smallEngineFault faultOf faults
+    small-engine-agrees k =
+        let other : eqb (kind r) pollutantKind ≡ false = rw k refl in
+        rw (
+          misplaced-agrees before s a r other,
+          small-agrees before s a,
+          particulate-agrees (declared before) (s .limits) (a .limitIs) r z order,
+          small-engine-unused r z k,
+          k,
+        )
+        (simp first-fault)
+
+    no-kind : isKind (kind r) ≡ false → 2 ≡ faultOf (widthIs z) before r
     unfolding faultOf faults
     no-kind w = rw w refl
 
     pub fault-agrees : faultBy z s r ≡ faultOf (widthIs z) before r
     unfolding faultBy
     fault-agrees =
-        by-kind (kind r) (λ k. rw k (pollutant-agrees k)) (λ k. rw k (engine-agrees k)) (λ k. rw k (stop-agrees k))
-        (λ n w. rw (n 1 (omega arith) (omega arith), n 2 (omega arith) (omega arith), n 3 (omega arith) (omega arith)) (no-kind w))
+        by-kind (kind r) (λ k. rw k (pollutant-agrees k)) (λ k. rw k (engine-agrees k)) (λ k. rw k (stop-agrees k)) (λ k. rw k (small-engine-agrees k))
+        (λ n w. rw (n pollutantKind refl, n engineKind refl, n stopKind refl, n smallEngineKind refl) (no-kind w))
 
 -- ---- one record more, which has no fault
 
@@ -169,13 +203,12 @@ empty-more : (before : List Record) (r : Record) → isEmpty (before ++ (r ∷ [
 empty-more [] r = refl
 empty-more (b ∷ before) r = refl
 
-count-more : (k : ℕ) (before : List Record) (r : Record)
-    → length (ofKind k (before ++ (r ∷ []))) ≡ cond (eqb (kind r) k) (length (ofKind k before) + 1) (length (ofKind k before))
-unfolding ofKind
-count-more k before r =
-    rw (ofKind-append k before (r ∷ []), length-append)
-    (by-test (λ t. length (ofKind k before) + length (cond t (r ∷ []) []) ≡ cond t (length (ofKind k before) + 1) (length (ofKind k before)))
-    (eqb (kind r) k) (λ e. refl) (λ e. omega arith))
+count-more : (test : Record → Bool) (before : List Record) (r : Record)
+    → length (those test (before ++ (r ∷ []))) ≡ cond (test r) (length (those test before) + 1) (length (those test before))
+count-more test before r =
+    rw (those-append test before (r ∷ []), length-append)
+    (by-test (λ t. length (those test before) + length (cond t (r ∷ []) []) ≡ cond t (length (those test before) + 1) (length (those test before)))
+    (test r) (λ e. refl) (λ e. omega arith))
 
 plan-one : (before : List Record) (r : Record) → badPlan before r ≡ false → plan r ≡ planNumber (before ++ (r ∷ []))
 unfolding badPlan planNumber
@@ -186,8 +219,14 @@ module _ {z : Size} {before : List Record} {s : Summary} (a : Agrees z before s)
   f : Faultless (widthIs z) before r
   f = faultless (widthIs z) before r faultIs
 
-  range : (pollutantKind ≤ kind r) × (kind r ≤ stopKind)
-  range = in-range pollutantKind stopKind (kind r) (f .kinds)
+  range : pollutantKind ≤ kind r
+  range =
+      by-kind (kind r) (λ k. omega arith) (λ k. omega arith) (λ k. omega arith) (λ k. omega arith) (λ n o. never (sym (ap not o) ∙ f .kinds))
+
+  -- the kinds of a heading
+  heads : eqb (kind r) pollutantKind || eqb (kind r) smallEngineKind ≡ not (eqb (kind r) engineKind || eqb (kind r) stopKind)
+  heads =
+      by-kind (kind r) (λ k. rw k refl) (λ k. rw k refl) (λ k. rw k refl) (λ k. rw k refl) (λ n o. never (sym (ap not o) ∙ f .kinds))
 
   placed : (eqb (kind r) pollutantKind && any isOther before ≡ false) × (stopped before ≡ false)
   placed = placed-so before r (f .placed)
@@ -217,12 +256,13 @@ module _ {z : Size} {before : List Record} {s : Summary} (a : Agrees z before s)
       (quantity-with (number r) (limit r) (n .0) (omega (arith, n .1, width-range z)) (s .limits) p)
 
   pub step : Agrees z (before ++ (r ∷ [])) (summaryWith s r)
-  unfolding summaryWith pollutant
+  unfolding summaryWith pollutant declared ofKind heading
   step =
       let isOne = eqb (kind r) pollutantKind in
       let all = before ++ (r ∷ []) in
       record {
         clean = clean-more;
+        kindIs = sym (last-kind before r);
         emptyIs = ne-eqb (kind r) 0 (λ z. omega (arith, range)) ∙ sym (empty-more before r);
         otherIs = other-more;
         stoppedIs = sym (any-snoc (λ b. eqb (kind b) stopKind) before r ∙ rw (placed .1) refl);
@@ -241,6 +281,9 @@ module _ {z : Size} {before : List Record} {s : Summary} (a : Agrees z before s)
             λ p.
             by-test (λ t. quantity (cond t (quantitiesWith (s .limits) (number r) (limit r)) (s .limits)) p ≡ limitOf p (declared all)) isOne
             (limits-more p) (λ e. rw (declared-other before r e) (a .limitIs p));
-        headIs = rw (a .headIs) (sym (count-more pollutantKind before r));
-        enginesIs = rw (a .enginesIs) (sym (count-more engineKind before r));
+        pollutantsIs =
+            rw (a .pollutantsIs, length-map (ofKind pollutantKind before) pollutant, length-map (ofKind pollutantKind all) pollutant)
+            (sym (count-more (λ b. eqb (kind b) pollutantKind) before r));
+        headIs = rw (a .headIs, heads) (sym (count-more (λ b. not (eqb (kind b) engineKind || eqb (kind b) stopKind)) before r));
+        enginesIs = rw (a .enginesIs) (sym (count-more (λ b. eqb (kind b) engineKind) before r));
       }

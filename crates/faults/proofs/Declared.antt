@@ -1,16 +1,16 @@
 -- What the limits by number, 0 where a pollutant is not declared, say of the declared pollutants.
-use Rattle.arithmetic.proofs.Basics.{ℕ, zero, suc, _+_, _*_, _/_, _≤_, _<_, arith, _≡_, refl, sym, _∙_, Bool, true, false, not, _||_, cond, List, [], _∷_, _++_}
+use Rattle.arithmetic.proofs.Basics.{ℕ, zero, suc, _+_, _*_, _/_, _≤_, _<_, arith, _≡_, refl, sym, _∙_, Bool, true, false, not, _&&_, _||_, cond, List, [], _∷_, _++_}
 use Rattle.arithmetic.proofs.Basics.{eqb, ltb, eqb-true, eq-eqb, ne-eqb, or-same, or-swap, or-assoc, by-test, ltb-same, any-update}
 use Rattle.rules.specs.Tools.{any}
-use Rattle.rules.specs.Sheet.{Record, Pollutant, pollutants, morePollutants, measurement, numbers, declares, gross}
-use Rattle.rules.specs.Refusals.{badValue, badMeasurement}
+use Rattle.rules.specs.Sheet.{Record, Pollutant, pollutants, morePollutants, measurement, volume, speed, date, numbers, declares, gross}
+use Rattle.rules.specs.Refusals.{particulateLimit, particulates, badParticulate, badValue, badMeasurement}
 use Rattle.accepted.proofs.ByNumber.{limitOf, InOrder, in-numbers}
 use Rattle.record.specs.declared.Quantities.{Quantities}
 use Rattle.record.specs.declared.Size.{Size}
 use Rattle.record.specs.declared.Size.the-variants.{Twenty, TwentyEight}
 use Rattle.record.specs.Sizes.{widthIs}
 use Rattle.record.specs.Quantities.{quantity, quantitiesWith}
-use Rattle.faults.specs.Faults.{badMeasurementBy, badBehind, exceeds, grossBy}
+use Rattle.faults.specs.Faults.{badParticulateBy, badMeasurementBy, badBehind, exceeds, grossBy}
 
 -- ---- limits by number
 
@@ -68,6 +68,19 @@ declares-limit w m (c ∷ ps) h p =
     by-test (λ t. t || declares ps p ≡ not (eqb (cond t (c .limit) (limitOf p ps)) 0)) (eqb (c .number) p)
     (λ e. rw (ne-eqb (c .limit) 0 (λ z. omega arith)) refl) (λ e. declares-limit w (c .number) ps (h .5) p)
 
+-- a test of the limit of pollutant p
+one-limit : (test : ℕ → Bool) (w m : ℕ) (ps : List Pollutant) → InOrder w m ps → (p : ℕ)
+    → any (λ c. eqb (c .number) p && test (c .limit)) ps ≡ not (eqb (limitOf p ps) 0) && test (limitOf p ps)
+one-limit test w m [] h p = refl
+one-limit test w m (c ∷ ps) h p =
+    rw (one-limit test w (c .number) ps (h .5) p)
+    (by-test
+    (λ t. t && test (c .limit) || not (eqb (limitOf p ps) 0) && test (limitOf p ps) ≡ not (eqb (cond t (c .limit) (limitOf p ps)) 0) && test (cond t (c .limit) (limitOf p ps)))
+    (eqb (c .number) p)
+    (λ e.
+    rw (unlisted w (c .number) ps (h .5) p (omega (arith, eqb-true (c .number) p e)), ne-eqb (c .limit) 0 (λ z. omega arith)) (or-same (test (c .limit))))
+    (λ e. refl))
+
 -- x is above L and half of L, rounded down
 half-more : (L x : ℕ) → ltb (L + L / 2) x ≡ ltb (3 * L) (2 * x)
 half-more L x = ltb-same (L + L / 2) x (3 * L) (2 * x) (omega arith)
@@ -107,6 +120,12 @@ module _ (ps : List Pollutant) (q : Quantities) (l : (p : ℕ) → quantity q p 
       let d = declares-limit morePollutants 0 ps h in
       sym (six-tests (badValue ps r 1) (badValue ps r 2) (badValue ps r 3) (badValue ps r 4) (badValue ps r 5) (badValue ps r 6)
       ∙ rw (d 1, d 2, d 3, d 4, d 5, d 6, l 1, l 2, l 3, l 4, l 5, l 6) refl)
+
+  pub particulate-agrees : (z : Size) → InOrder (widthIs z) 0 ps → badParticulateBy (q .pm) r ≡ badParticulate ps r
+  unfolding badParticulate badParticulateBy quantity
+  particulate-agrees z h =
+      let rule : ℕ = particulateLimit (volume r) (speed r) (date r) in
+      sym (one-limit (λ L. not (eqb L rule)) (widthIs z) 0 ps h particulates ∙ rw (← l particulates) refl)
 
   pub gross-agrees : (z : Size) → InOrder (widthIs z) 0 ps → grossBy z q r ≡ gross ps r
   unfolding grossBy quantity

@@ -1,4 +1,4 @@
 pub mod Chains
-pub mod Unused
+pub mod ZeroBytes
 pub mod Declared
 pub mod Agreement

@@ -4,14 +4,18 @@ use mathlib.Core.Bool.{Bool, false, not, _&&_, _||_, cond}
 use lib.Dec.{leb, ltb, eqb}
 use Rattle.rules.specs.Tools.{within, byte, two, four}
 use Rattle.rules.specs.Logarithm.{greatest}
-use Rattle.rules.specs.Sheet.{Record, pollutantKind, engineKind, stopKind, kind, number, plan, limit, deviation, cause, measurement}
-use Rattle.rules.specs.Refusals.{greatestDeviation, greatestCause}
+use Rattle.rules.specs.Sheet.{Record, pollutantKind, engineKind, stopKind, smallEngineKind, kind, number, plan, limit, deviation, cause, measurement, volume, speed, date}
+use Rattle.rules.specs.Refusals.{greatestDeviation, greatestCause, badDate, particulateLimit}
 use Rattle.rules.specs.Plans.{knownDeviation, inService, planCount, numberOf}
 use Rattle.record.specs.declared.Quantities.{Quantities}
 use Rattle.record.specs.declared.Size.{Size}
 use Rattle.record.specs.declared.Size.the-variants.{Twenty, TwentyEight}
 use Rattle.record.specs.Sizes.{widthIs}
 use Rattle.faults.specs.declared.Summary.{Summary}
+
+-- 3, of another kind than a pollutant: it would be the first record, or stand behind a stop
+abbrev pub misplacesOthers : Summary → Bool
+misplacesOthers s = eqb (s .kind) 0 || eqb (s .kind) stopKind
 
 -- 3 to 7 and 12 of a pollutant, by its numbers, where there are w of them
 unfoldable pub pollutantBy : (w : ℕ) → Summary → (number plan limit deviation : ℕ) → (unused : Bool) → ℕ
@@ -28,24 +32,29 @@ abbrev pub unusedBehind : Size → Record → Bool
 unusedBehind Twenty r = false
 unusedBehind TwentyEight r = not (eqb (four r 20) 0) || not (eqb (four r 24) 0)
 
-abbrev pub pollutantUnused : Size → Record → Bool
-pollutantUnused z r = not (eqb (byte r 3) 0) || not (eqb (four r 12) 0) || not (eqb (four r 16) 0) || unusedBehind z r
+abbrev pub unusedFromTwelve : Size → Record → Bool
+unusedFromTwelve z r = not (eqb (four r 12) 0) || not (eqb (four r 16) 0) || unusedBehind z r
+
+-- of each kind, where `rest` says whether a byte from 12 on is not zero
+abbrev pub pollutantUnused : Record → (rest : Bool) → Bool
+pollutantUnused r rest = not (eqb (byte r 3) 0) || rest
 
 abbrev pub engineUnused : Record → Bool
 engineUnused r = not (eqb (byte r 1) 0)
 
-abbrev pub stopUnused : Size → Record → Bool
-stopUnused z r =
+abbrev pub stopUnused : Record → (rest : Bool) → Bool
+stopUnused r rest =
     not (eqb (byte r 1) 0)
     || not (eqb (two r 2) 0)
     || not (eqb (four r 4) 0)
     || not (eqb (four r 8) 0)
-    || not (eqb (four r 12) 0)
-    || not (eqb (four r 16) 0)
-    || unusedBehind z r
+    || rest
 
-unfoldable pub pollutantFault : Size → Summary → Record → ℕ
-pollutantFault z s r = pollutantBy (widthIs z) s (number r) (plan r) (limit r) (deviation r) (pollutantUnused z r)
+abbrev pub smallEngineUnused : Record → (rest : Bool) → Bool
+smallEngineUnused r rest = not (eqb (byte r 1) 0) || not (eqb (two r 6) 0) || rest
+
+unfoldable pub pollutantFault : Size → Summary → Record → (rest : Bool) → ℕ
+pollutantFault z s r rest = pollutantBy (widthIs z) s (number r) (plan r) (limit r) (deviation r) (pollutantUnused r rest)
 
 -- 8: a limit of 0 stands for an undeclared pollutant
 abbrev pub badValueBy : (limit x : ℕ) → Bool
@@ -85,7 +94,7 @@ badCauseBy z s r = cond (eqb (s .plan) (numberOf inService) && grossBy z (s .lim
 -- 3, 8, 9, 10 and 12 of an engine
 unfoldable pub engineFault : Size → Summary → Record → ℕ
 engineFault z s r =
-    cond (eqb (s .kind) 0 || eqb (s .kind) stopKind) 3
+    cond (misplacesOthers s) 3
     (cond (badMeasurementBy (s .limits) r) 8
     (cond (badBehind z (s .limits) r) 8
     (cond (badCauseBy z s r) 9
@@ -93,15 +102,33 @@ engineFault z s r =
     (cond (engineUnused r) 12 0)))))
 
 -- 3, 11 and 12 of a stop
-unfoldable pub stopFault : Size → Summary → Record → ℕ
-stopFault z s r =
-    cond (eqb (s .kind) 0 || eqb (s .kind) stopKind) 3
+unfoldable pub stopFault : Summary → Record → (rest : Bool) → ℕ
+stopFault s r rest =
+    cond (misplacesOthers s) 3
     (cond (eqb (s .plan) (numberOf inService)) 11
-    (cond (stopUnused z r) 12 0))
+    (cond (stopUnused r rest) 12 0))
+
+-- 16: behind a pollutant there is no other small engine
+abbrev pub badSmallEngineBy : Summary → Bool
+badSmallEngineBy s = not (eqb (s .kind) pollutantKind) || eqb (s .plan) (numberOf inService)
+
+-- 18: a limit of 0 stands for undeclared particulates
+unfoldable pub badParticulateBy : (limit : ℕ) → Record → Bool
+badParticulateBy limit r = not (eqb limit 0) && not (eqb limit (particulateLimit (volume r) (speed r) (date r)))
+
+-- 3, 16, 17, 18 and 12 of a small engine
+unfoldable pub smallEngineFault : Summary → Record → (rest : Bool) → ℕ
+smallEngineFault s r rest =
+    cond (misplacesOthers s) 3
+    (cond (badSmallEngineBy s) 16
+    (cond (badDate r) 17
+    (cond (badParticulateBy (s .limits .pm) r) 18
+    (cond (smallEngineUnused r rest) 12 0))))
 
 -- 2, of a record of another kind
 unfoldable pub faultBy : Size → Summary → Record → ℕ
 faultBy z s r =
     cond (eqb (kind r) engineKind) (engineFault z s r)
-    (cond (eqb (kind r) pollutantKind) (pollutantFault z s r)
-    (cond (eqb (kind r) stopKind) (stopFault z s r) 2))
+    (cond (eqb (kind r) pollutantKind) (pollutantFault z s r (unusedFromTwelve z r))
+    (cond (eqb (kind r) stopKind) (stopFault s r (unusedFromTwelve z r))
+    (cond (eqb (kind r) smallEngineKind) (smallEngineFault s r (unusedFromTwelve z r)) 2)))

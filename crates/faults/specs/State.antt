@@ -1,9 +1,9 @@
 -- What the records before one say, as the program keeps it: a record at a time.
 use Prim.Native.Nat.{ℕ, _+_, _≤_, _<_}
-use mathlib.Core.Bool.{cond}
+use mathlib.Core.Bool.{_||_, cond}
 use lib.Dec.{eqb}
 use Rattle.rules.specs.Logarithm.{greatest}
-use Rattle.rules.specs.Sheet.{Record, pollutantKind, engineKind, kind, number, plan, limit}
+use Rattle.rules.specs.Sheet.{Record, pollutantKind, engineKind, smallEngineKind, kind, number, plan, limit}
 use Rattle.rules.specs.Plans.{planOf, lastRow}
 use Rattle.record.specs.declared.Quantities.{Quantities}
 use Rattle.record.specs.Quantities.{quantitiesWith}
@@ -18,6 +18,7 @@ nothing =
       «last_row» = 0;
       number = 0;
       limits = record { co = 0; hc = 0; nox = 0; pm = 0; fifth = 0; sixth = 0 };
+      pollutants = 0;
       head = 0;
       engines = 0;
     }
@@ -31,12 +32,14 @@ summaryWith s r =
       «last_row» = cond (eqb (kind r) pollutantKind) (lastRow (planOf (plan r))) (s .«last_row»);
       number = cond (eqb (kind r) pollutantKind) (number r) (s .number);
       limits = cond (eqb (kind r) pollutantKind) (quantitiesWith (s .limits) (number r) (limit r)) (s .limits);
-      head = cond (eqb (kind r) pollutantKind) (s .head + 1) (s .head);
+      pollutants = cond (eqb (kind r) pollutantKind) (s .pollutants + 1) (s .pollutants);
+      head = cond (eqb (kind r) pollutantKind || eqb (kind r) smallEngineKind) (s .head + 1) (s .head);
       engines = cond (eqb (kind r) engineKind) (s .engines + 1) (s .engines);
     }
 
--- what a summary must leave room for, so that another record is read: the counts of a sheet are at most 39
+-- what a summary must leave room for, so that another record is read: the counts of a sheet are at most 40
 pub record Room (s : Summary) : Type 0 where
+  pub pollutants : s .pollutants < 1000
   pub head : s .head < 1000
   pub engines : s .engines < 1000
 

@@ -1,14 +1,19 @@
-// The lowest refusal number of a record, given what the records before it say. 0: the record has no fault.
+// The refusal number of a record, given what the records before it say: the first in the order of the refusals. 0: the record has no fault.
 ghost use mathlib.Core.Path.{_≡_};
 ghost use Rattle.rules.specs.Sheet.{measurement};
 ghost use Rattle.faults.specs.State.{LimitRange, Limits};
 ghost use Rattle.faults.specs.Faults.{badValueBy, badBehind, badMeasurementBy, exceeds, exceedsBehind, grossBy, badCauseBy};
-ghost use Rattle.faults.specs.Faults.{unusedBehind, pollutantBy, pollutantFault, engineFault, stopUnused, stopFault, faultBy};
+ghost use Rattle.faults.specs.Faults.{pollutantBy, pollutantFault, engineFault, stopFault, faultBy};
 use crate::Summary;
+use crate::small_engine::small_engine_fault;
+use crate::unused::pollutant_unused;
+use crate::unused::stop_unused;
+use crate::unused::unused_from_twelve;
 use plan::Plan;
 use record::ENGINE;
 use record::POLLUTANT;
 use record::Quantities;
+use record::SMALL_ENGINE;
 use record::STOP;
 use record::Size;
 use record::byte_at;
@@ -19,8 +24,6 @@ use record::limit_of;
 use record::measurement_of;
 use record::number_of;
 use record::plan_of;
-use record::u16_at;
-use record::u32_at;
 use values::GREATEST;
 
 // The greatest deviation of plan 1, and the greatest cause.
@@ -28,7 +31,7 @@ const GREATEST_DEVIATION: u32 = 4_000_000;
 
 const GREATEST_CAUSE: u32 = 65_534;
 
-// The lowest refusal of a pollutant, by its numbers and by whether another byte of it is not zero.
+// The refusal of a pollutant, by its numbers and by whether another byte of it is not zero.
 fn pollutant_by(
     pollutants: u32,
     s: Summary,
@@ -70,24 +73,10 @@ fn pollutant_by(
     0
 }
 
-// Some byte behind the first 20 is not zero, which a record of 28 bytes alone has.
-fn unused_behind(size: Size, r: &[u8]) -> bool
-    ensures { λ b. ⌜ b ≡ unusedBehind size (now (r .entry)) ⌝ }
+// The refusal of a pollutant.
+fn pollutant_fault(size: Size, s: Summary, r: &[u8], rest: bool) -> u8
+    ensures { λ n. ⌜ n ≡ pollutantFault size s (now (r .entry)) rest ⌝ }
 {
-    match size {
-        Size::Twenty => false,
-        Size::TwentyEight => (u32_at(r, 20) != 0) | (u32_at(r, 24) != 0),
-    }
-}
-
-// The lowest refusal of a pollutant. "Byte 3 and bytes 12-19 are zero."; 02, F-10: "the new ones zero".
-fn pollutant_fault(size: Size, s: Summary, r: &[u8]) -> u8
-    ensures { λ n. ⌜ n ≡ pollutantFault size s (now (r .entry)) ⌝ }
-{
-    let unused = (byte_at(r, 3) != 0)
-        | (u32_at(r, 12) != 0)
-        | (u32_at(r, 16) != 0)
-        | unused_behind(size, r);
     pollutant_by(
         size.pollutants(),
         s,
@@ -95,7 +84,7 @@ fn pollutant_fault(size: Size, s: Summary, r: &[u8]) -> u8
         plan_of(r),
         limit_of(r),
         deviation_of(r),
-        unused,
+        pollutant_unused(r, rest),
     )
 }
 
@@ -179,14 +168,13 @@ fn bad_cause(size: Size, s: Summary, r: &[u8]) -> bool
     }
 }
 
-// The lowest refusal of an engine.
+// The refusal of an engine.
 fn engine_fault(size: Size, s: Summary, r: &[u8]) -> u8
     requires { ⌜ Limits (s .limits) ⌝ }
     ensures { λ n. ⌜ n ≡ engineFault size s (now (r .entry)) ⌝ }
 {
     let limits = s.limits;
-    // "3, first record not kind 1 .. or anything after kind 3"
-    if (s.kind == 0) | (s.kind == STOP) {
+    if s.misplaces_others() {
         return 3;
     }
     if bad_measurement(limits, r) {
@@ -209,38 +197,24 @@ fn engine_fault(size: Size, s: Summary, r: &[u8]) -> u8
     0
 }
 
-// "12, another byte that must be zero", of a stop: "bytes 1-19 zero"; 02, F-10: "the new ones zero"
-fn stop_unused(size: Size, r: &[u8]) -> bool
-    ensures { λ b. ⌜ b ≡ stopUnused size (now (r .entry)) ⌝ }
+// The refusal of a stop.
+fn stop_fault(s: Summary, r: &[u8], rest: bool) -> u8
+    ensures { λ n. ⌜ n ≡ stopFault s (now (r .entry)) rest ⌝ }
 {
-    (byte_at(r, 1) != 0)
-        | (u16_at(r, 2) != 0)
-        | (u32_at(r, 4) != 0)
-        | (u32_at(r, 8) != 0)
-        | (u32_at(r, 12) != 0)
-        | (u32_at(r, 16) != 0)
-        | unused_behind(size, r)
-}
-
-// The lowest refusal of a stop.
-fn stop_fault(size: Size, s: Summary, r: &[u8]) -> u8
-    ensures { λ n. ⌜ n ≡ stopFault size s (now (r .entry)) ⌝ }
-{
-    // "3, first record not kind 1 .. or anything after kind 3"
-    if (s.kind == 0) | (s.kind == STOP) {
+    if s.misplaces_others() {
         return 3;
     }
     // "11, stop in plan 4"
     if s.plan == Plan::IN_SERVICE {
         return 11;
     }
-    if stop_unused(size, r) {
+    if stop_unused(r, rest) {
         return 12;
     }
     0
 }
 
-// The lowest refusal number of the record r after those of which s tells, 0 where it has no fault; "2, kind not 1 to 3".
+// The refusal number of the record r after those of which s tells, 0 where it has no fault; "2, kind not 1 to 3", and 02, F-1: "record kind 5".
 // Engines are asked for first, since most records are engines.
 // For `checking` alone, whose loop reads on only behind limits that are in range: so it may require.
 pub fn fault_of(size: Size, s: Summary, r: &[u8]) -> u8
@@ -249,11 +223,15 @@ pub fn fault_of(size: Size, s: Summary, r: &[u8]) -> u8
 {
     let kind = kind_of(r);
     if kind == ENGINE {
-        engine_fault(size, s, r)
-    } else if kind == POLLUTANT {
-        pollutant_fault(size, s, r)
+        return engine_fault(size, s, r);
+    }
+    let rest = unused_from_twelve(size, r);
+    if kind == POLLUTANT {
+        pollutant_fault(size, s, r, rest)
     } else if kind == STOP {
-        stop_fault(size, s, r)
+        stop_fault(s, r, rest)
+    } else if kind == SMALL_ENGINE {
+        small_engine_fault(s, r, rest)
     } else {
         2
     }

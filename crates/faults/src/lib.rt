@@ -1,16 +1,21 @@
 // What the records before one say, and the refusal of a record after them.
 ghost use mathlib.Core.Path.{_≡_};
 ghost use Rattle.faults.specs.State.{nothing, summaryWith, Room};
+ghost use Rattle.faults.specs.Faults.{misplacesOthers};
 use plan::Plan;
 use record::ENGINE;
 use record::POLLUTANT;
 use record::Quantities;
+use record::SMALL_ENGINE;
+use record::STOP;
 use record::kind_of;
 use record::limit_of;
 use record::number_of;
 use record::plan_of;
 
 pub mod fault;
+mod small_engine;
+mod unused;
 
 // What is kept of the records read so far: all that the refusal of the next one looks back at, and what judging starts from.
 pub struct Summary {
@@ -24,7 +29,9 @@ pub struct Summary {
     pub number: u32,
     // 0 where the pollutant is not declared.
     pub limits: Quantities,
-    // How many records stand before the first engine: those of kind 1.
+    // How many pollutants are declared.
+    pub pollutants: u32,
+    // How many records stand before the first engine: the pollutants, and a small engine if there is one.
     pub head: u32,
     // How many engines there are.
     pub engines: u32,
@@ -49,13 +56,14 @@ impl Summary {
             last_row: 0,
             number: 0,
             limits: none,
+            pollutants: 0,
             head: 0,
             engines: 0,
         }
     }
 
     // What is said once the record r, which has no fault, is read too.
-    // For `checking` alone, whose loop reads at most 39 records after at most 39, so that no count overflows: so it may require.
+    // For `checking` alone, whose loop reads at most 40 records after at most 40, so that no count overflows: so it may require.
     pub fn with(mut self, r: &[u8]) -> Summary
         requires { ⌜ Room self ⌝ }
         ensures { λ t. ⌜ t ≡ summaryWith self (now (r .entry)) ⌝ }
@@ -68,12 +76,22 @@ impl Summary {
             let plan = plan_of(r);
             let number = number_of(r);
             let limits = self.limits;
+            self.pollutants = self.pollutants + 1;
+            self.head = self.head + 1;
             self.plan = plan;
             self.last_row = Plan::of(plan).last_row();
             self.number = number;
             self.limits = limits.with(number, limit_of(r));
+        } else if kind == SMALL_ENGINE {
             self.head = self.head + 1;
         }
         self
+    }
+
+    // "3, first record not kind 1 .. or anything after kind 3": whether no record that is not a pollutant may follow.
+    pub(crate) fn misplaces_others(self) -> bool
+        ensures { λ b. ⌜ b ≡ misplacesOthers self ⌝ }
+    {
+        (self.kind == 0) | (self.kind == STOP)
     }
 }

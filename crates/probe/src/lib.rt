@@ -60,6 +60,7 @@ fn walked(size: usize, sheet: &[u8], k: usize) -> usize
     at
 }
 
+// The record's kind, 100 for a kind that there is not and 101 for the end, and the fields.
 fn numbers_of(step: Step) -> [u32; 8]
     ensures { λ ns. ⌜ ns ≡ numbersOf step ⌝ }
 {
@@ -84,12 +85,17 @@ fn numbers_of(step: Step) -> [u32; 8]
             measurements.sixth,
         ],
         Step::Stop => [3, 0, 0, 0, 0, 0, 0, 0],
-        Step::Other { kind } => [4, kind, 0, 0, 0, 0, 0, 0],
-        Step::End => [5, 0, 0, 0, 0, 0, 0, 0],
+        Step::SmallEngine {
+            volume,
+            speed,
+            date,
+        } => [5, volume, speed, date, 0, 0, 0, 0],
+        Step::Other { kind } => [100, kind, 0, 0, 0, 0, 0, 0],
+        Step::End => [101, 0, 0, 0, 0, 0, 0, 0],
     }
 }
 
-// What a reader finds that was moved on k times: which of the five steps, and its fields, at numbers; and as the answer how many records are left there.
+// What a reader finds that was moved on k times: which step, and its fields, at numbers; and as the answer how many records are left there.
 // size_t probe_step(size_t size, const uint8_t *sheet, size_t sheet_length, size_t k, uint32_t numbers[8])
 #[no_mangle]
 pub extern "C" fn probe_step(size: usize, sheet: &[u8], k: usize, numbers: &mut [u32; 8]) -> usize

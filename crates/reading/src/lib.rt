@@ -6,6 +6,7 @@ use record::ENGINE;
 use record::Named;
 use record::POLLUTANT;
 use record::Quantities;
+use record::SMALL_ENGINE;
 use record::STOP;
 use record::Size;
 use record::cause_of;
@@ -16,8 +17,11 @@ use record::measurement_of;
 use record::number_of;
 use record::plan_of;
 use record::record_at;
+use record::small_engine::date_of;
+use record::small_engine::speed_of;
+use record::small_engine::volume_of;
 
-// What stands at a number: a record of one of the three kinds, one of a kind that there is not, or the end of the whole records.
+// What stands at a number: a record of one of the four kinds, one of a kind that there is not, or the end of the whole records.
 pub enum Step {
     Pollutant {
         number: u32,
@@ -30,6 +34,11 @@ pub enum Step {
         measurements: Quantities,
     },
     Stop,
+    SmallEngine {
+        volume: u32,
+        speed: u32,
+        date: u32,
+    },
     Other {
         kind: u32,
     },
@@ -82,6 +91,13 @@ pub fn step_at(size: usize, bytes: &[u8], at: usize) -> Step
     }
     if kind == STOP {
         return Step::Stop;
+    }
+    if kind == SMALL_ENGINE {
+        return Step::SmallEngine {
+            volume: volume_of(r),
+            speed: speed_of(r),
+            date: date_of(r),
+        };
     }
     Step::Other { kind }
 }

@@ -10,6 +10,8 @@ ghost use Rattle.accepted.specs.Sheets.{recordAt};
 ghost use Rattle.record.specs.Ranges.{RecordRange, MeasurementRange, ByteRange, PlaceRange};
 ghost use Rattle.record.specs.Quantities.{quantitiesWith};
 
+pub mod small_engine;
+
 // The size of a record, 20 or 28 bytes: by it a sheet is cut into records, and it tells how many pollutants there may be.
 pub enum Size {
     Twenty,
@@ -28,10 +30,10 @@ impl Size {
 
     pub const TWENTY_EIGHT: usize = 28;
 
-    // The bytes of the longest sheet: "at most 37", and 02, F-10: "two records more than the old maximum".
-    pub const LONGEST_OF_TWENTY: usize = 37 * Size::TWENTY;
+    // The bytes of the longest sheet. 02, F-1: "A sheet may hold 38 records.", and F-10: "two records more than the old maximum".
+    pub const LONGEST_OF_TWENTY: usize = 38 * Size::TWENTY;
 
-    pub const LONGEST_OF_TWENTY_EIGHT: usize = 39 * Size::TWENTY_EIGHT;
+    pub const LONGEST_OF_TWENTY_EIGHT: usize = 40 * Size::TWENTY_EIGHT;
 
     // The size of so many bytes.
     pub fn of(bytes: usize) -> Named
@@ -98,12 +100,14 @@ impl Size {
     }
 }
 
-// The kinds of a record: a pollutant, an engine or vehicle, and testing stopped by the manufacturer.
+// The kinds of a record: a pollutant, an engine or vehicle, testing stopped by the manufacturer, and what makes an engine a small one.
 pub const POLLUTANT: u32 = 1;
 
 pub const ENGINE: u32 = 2;
 
 pub const STOP: u32 = 3;
+
+pub const SMALL_ENGINE: u32 = 5;
 
 // A number for each pollutant, "carbon monoxide, hydrocarbons, nitrogen oxides, particulates", and for the two more that 02, F-10, does not name.
 pub struct Quantities {

@@ -1,4 +1,5 @@
--- Document 01, the specification, a file for each of its sections. The refusals stand before the operations, which use them.
+-- Document 01, the specification, a file for each of its sections, with what document 02's requests change and add in its place. The
+-- refusals stand before the operations, which use them, and behind the calendar of F-1.
 -- Behind them, of document 02: F-10, the operations by the record size that a caller names and the converter; and a file for each request
 -- that is about no sheet.
 --
@@ -10,6 +11,7 @@ pub mod Logarithm
 pub mod Sheet
 pub mod Plans
 pub mod Series
+pub mod Calendar
 pub mod Refusals
 pub mod Operations
 pub mod Printed

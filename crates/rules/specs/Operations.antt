@@ -4,7 +4,7 @@ use mathlib.Core.Bool.{Bool, not, _||_, cond}
 use mathlib.Core.List.{List, [], _∷_, _++_}
 use lib.Dec.{ltb, eqb}
 use lib.ListN.{length, take, drop, replicate}
-use Rattle.rules.specs.Sheet.{Record, size, records, pollutantKind, ofKind}
+use Rattle.rules.specs.Sheet.{Record, size, records, heading}
 use Rattle.rules.specs.Series.{Pair, pair, Answer, refusal, judgement, judgeRecords}
 use Rattle.rules.specs.Refusals.{Check, accepted, refused, check}
 
@@ -20,9 +20,9 @@ judge w q b = judgeBy w q (check w b) (records w b)
 
 -- ---- evidence
 
--- the bytes through the record of engine n, which stands behind the pollutants and n − 1 engines
+-- the bytes through the record of engine n, which stands behind the heading and n − 1 engines
 abbrev pub through : (w n : ℕ) → List ℕ → List ℕ
-through w n b = take (size w * (length (ofKind pollutantKind (records w b)) + n)) b
+through w n b = take (size w * (length (heading (records w b)) + n)) b
 
 -- "through the deciding engine's record; the whole sheet where undecided, stopped or referred": the ground tells which
 abbrev pub evidenceBy : (w : ℕ) → Answer → List ℕ → List ℕ
@@ -55,7 +55,7 @@ onSuccess (refused number place) changed unchanged = unchanged
 unfoldable pub noRoom : (w : ℕ) → (b : List ℕ) → (u : ℕ) → Bool
 noRoom w b u = ltb (length (drop u b)) (size w) || ltb (length b) u
 
--- "1 to 12 for the sheet there, unless u = 0; 1 to 12 for the joined sheet"
+-- "1 to 12 for the sheet there, unless u = 0; 1 to 12 for the joined sheet"; 02, F-1: "a sheet's new refusals stand with 1 to 12 in append"
 unfoldable pub joined : (w : ℕ) → (sheet r : List ℕ) → Check
 joined w s r = andThen (cond (eqb (length s) 0) accepted (check w s)) (check w (s ++ r))
 

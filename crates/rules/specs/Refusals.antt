@@ -1,4 +1,4 @@
--- Document 01, "What each operation turns down": refusals 1 to 12 of a sheet, in their order.
+-- Document 01, "What each operation turns down": refusals 1 to 12 of a sheet, and document 02's 16 to 18, in their order.
 use Prim.Native.Nat.{ℕ, _-_, _*_, _%_}
 use mathlib.Core.Bool.{Bool, true, false, not, _&&_, _||_, cond}
 use mathlib.Core.List.{List, [], _∷_, _++_}
@@ -6,15 +6,51 @@ use lib.Dec.{leb, ltb, eqb}
 use lib.ListN.{length, take, drop}
 use Rattle.rules.specs.Tools.{any, within}
 use Rattle.rules.specs.Logarithm.{greatest}
-use Rattle.rules.specs.Sheet.{Record, Pollutant, size, most, records, numbers, pollutantKind, engineKind, stopKind, kind, number, plan, limit, deviation, cause, measurement, engines, stopped, planNumber, declared, declares, gross}
+use Rattle.rules.specs.Sheet.{Record, Pollutant, size, most, records, numbers, pollutantKind, engineKind, stopKind, smallEngineKind, kind, number, plan, limit, deviation, cause, measurement, volume, speed, date, engines, stopped, planNumber, declared, declares, gross}
+use Rattle.rules.specs.Calendar.{isDay}
 use Rattle.rules.specs.Plans.{knownDeviation, inService, planCount, numberOf, planOf, lastRow}
 
 -- ---- the faults of a record r that stands after the faultless records `before`
+
+-- "2, kind not 1 to 3"; 02, F-1: "Add record kind 5"
+abbrev pub isKind : (kind : ℕ) → Bool
+isKind k = within pollutantKind stopKind k || eqb k smallEngineKind
 
 -- "3, first record not kind 1, kind 1 after another kind, or anything after kind 3"
 unfoldable pub misplaced : (before : List Record) → Record → Bool
 misplaced [] r = not (eqb (kind r) pollutantKind)
 misplaced (a ∷ before) r = eqb (kind r) pollutantKind && any (λ b. not (eqb (kind b) pollutantKind)) (a ∷ before) || stopped (a ∷ before)
+
+-- the kind of the last record, 0 where there is none
+abbrev pub lastKind : List Record → ℕ
+lastKind [] = 0
+lastKind (r ∷ []) = kind r
+lastKind (r ∷ o ∷ rs) = lastKind (o ∷ rs)
+
+-- 02, F-1: "allowed once, straight after the pollutant records"; "16, a second kind 5, one elsewhere or in plan 4"
+unfoldable pub badSmallEngine : (before : List Record) → Bool
+badSmallEngine before =
+    any (λ b. eqb (kind b) smallEngineKind) before
+    || not (eqb (lastKind before) pollutantKind)
+    || eqb (planNumber before) (numberOf inService)
+
+-- 02, F-1: "17, date not in the Gregorian calendar of years 1 to 9999"
+unfoldable pub badDate : Record → Bool
+badDate r = not (isDay (date r))
+
+-- 02, F-1: "Under 700 cm³ and above 3000 per minute, the particulate limit of production is 250 through 19980930 and 150 after ..; every
+-- other engine has 150."
+unfoldable pub particulateLimit : (volume speed date : ℕ) → ℕ
+particulateLimit v n d = cond (ltb v 700 && ltb 3000 n && leb d 19980930) 250 150
+
+-- "pollutant number 1 to 4 (carbon monoxide, hydrocarbons, nitrogen oxides, particulates)"
+abbrev pub particulates : ℕ
+particulates = 4
+
+-- 02, F-1: "18, .. a declared particulate limit not the rule's": nothing is asked where none is declared
+unfoldable pub badParticulate : List Pollutant → Record → Bool
+badParticulate ps r =
+    any (λ c. eqb (c .number) particulates && not (eqb (c .limit) (particulateLimit (volume r) (speed r) (date r)))) ps
 
 -- the number of the last declared pollutant, 0 where there is none
 abbrev pub newest : List Pollutant → ℕ
@@ -72,12 +108,14 @@ unused w r =
     eqb (kind r) pollutantKind && (nonzero r 3 4 || nonzero r 12 (size w))
     || eqb (kind r) engineKind && nonzero r 1 2
     || eqb (kind r) stopKind && nonzero r 1 (size w)
+    || eqb (kind r) smallEngineKind && (nonzero r 1 2 || nonzero r 6 8 || nonzero r 12 (size w))
 
 -- a refusal's number, and whether the record has that fault
 pub data Fault : Type 0 where
   fault : (number : ℕ) → (present : Bool) → Fault
 
--- "in it the lowest of": the list is in the order of the refusals, and the first that is present counts; 0 where none is
+-- "in it the lowest of": the list is in the order of the refusals, and the first that is present counts; 0 where none is. The order is
+-- the list's and not that of the numbers: 02, F-1, has 16 "after 3", 17 "after 16", 18 "after 17"
 abbrev pub first : List Fault → ℕ
 first [] = 0
 first (fault k true ∷ fs) = k
@@ -85,8 +123,11 @@ first (fault k false ∷ fs) = first fs
 
 unfoldable pub faults : (w : ℕ) → (before : List Record) → Record → List Fault
 faults w before r =
-    fault 2 (not (within pollutantKind stopKind (kind r)))
+    fault 2 (not (isKind (kind r)))
     ∷ fault 3 (misplaced before r)
+    ∷ fault 16 (eqb (kind r) smallEngineKind && badSmallEngine before)
+    ∷ fault 17 (eqb (kind r) smallEngineKind && badDate r)
+    ∷ fault 18 (eqb (kind r) smallEngineKind && badParticulate (declared before) r)
     ∷ fault 4 (eqb (kind r) pollutantKind && badNumber w before r)
     ∷ fault 5 (eqb (kind r) pollutantKind && badPlan before r)
     ∷ fault 6 (eqb (kind r) pollutantKind && badLimit r)
@@ -114,7 +155,7 @@ checkFrom w before [] = accepted
 checkFrom w before (r ∷ rs) =
     cond (eqb (faultOf w before r) 0) (checkFrom w (before ++ (r ∷ [])) rs) (refused (faultOf w before r) (length before))
 
--- "1, no bytes, a length not a multiple of 20, or over 740 bytes"
+-- "1, no bytes, a length not a multiple of 20, or over 740 bytes", which 02, F-1, makes 760: "A sheet may hold 38 records."
 unfoldable pub badLength : (w bytes : ℕ) → Bool
 badLength w n = eqb n 0 || not (eqb (n % size w) 0) || ltb (most w * size w) n
 

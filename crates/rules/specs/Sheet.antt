@@ -1,6 +1,6 @@
 -- Document 01, "The sheet": records and fields. w is the number of pollutants that the format has room for.
 use Prim.Native.Nat.{ℕ, zero, suc, _+_, _*_, _/_}
-use mathlib.Core.Bool.{Bool}
+use mathlib.Core.Bool.{Bool, not, _||_}
 use mathlib.Core.List.{List, [], _∷_, _++_, map}
 use lib.Dec.{ltb, eqb}
 use lib.ListN.{length, getD, take, drop}
@@ -21,11 +21,12 @@ Record = List ℕ
 abbrev pub size : (w : ℕ) → ℕ
 size w = 4 + 4 * w
 
--- "at most 37": each pollutant once, 32 engines and a stop; 02, F-10: "A sheet of the new size holds two records more"
+-- 02, F-1: "A sheet may hold 38 records.": each pollutant once, a small engine, 32 engines and a stop; F-10: "A sheet of the new size
+-- holds two records more than the old maximum"
 abbrev pub most : (w : ℕ) → ℕ
-most w = w + 33
+most w = w + 34
 
--- the same for document 01's four pollutants: 20 bytes, 37 records, 740 bytes
+-- the same for document 01's four pollutants: 20 bytes, 38 records, 760 bytes
 abbrev pub recordSize : ℕ
 recordSize = size pollutants
 
@@ -44,7 +45,8 @@ cut s (suc n) b = take s b ∷ cut s n (drop s b)
 unfoldable pub records : (w : ℕ) → List ℕ → List Record
 records w b = cut (size w) (length b / size w) b
 
--- "Byte 0 is the kind": 1 pollutant, 2 engine or vehicle, 3 testing stopped by the manufacturer
+-- "Byte 0 is the kind": 1 pollutant, 2 engine or vehicle, 3 testing stopped by the manufacturer; 02, F-1: "record kind 5", what makes an
+-- engine a small one
 abbrev pub pollutantKind : ℕ
 pollutantKind = 1
 
@@ -53,6 +55,9 @@ engineKind = 2
 
 abbrev pub stopKind : ℕ
 stopKind = 3
+
+abbrev pub smallEngineKind : ℕ
+smallEngineKind = 5
 
 unfoldable pub kind : Record → ℕ
 kind r = byte r 0
@@ -77,6 +82,16 @@ cause r = two r 2
 unfoldable pub measurement : Record → (pollutant : ℕ) → ℕ
 measurement r p = four r (4 * p)
 
+-- kind 5, 02, F-1: "bytes 2-3 swept volume per cylinder in cm³, bytes 4-5 rated speed per minute, bytes 8-11 test date"
+unfoldable pub volume : Record → ℕ
+volume r = two r 2
+
+unfoldable pub speed : Record → ℕ
+speed r = two r 4
+
+unfoldable pub date : Record → ℕ
+date r = four r 8
+
 -- the records of a kind, in their order
 unfoldable pub ofKind : ℕ → List Record → List Record
 ofKind k rs = those (λ r. eqb (kind r) k) rs
@@ -84,6 +99,10 @@ ofKind k rs = those (λ r. eqb (kind r) k) rs
 -- "Its engines are its records of kind 2"
 abbrev pub engines : List Record → List Record
 engines rs = ofKind engineKind rs
+
+-- the records of every other kind but a stop: on an accepted sheet, those before the first engine
+unfoldable pub heading : List Record → List Record
+heading rs = those (λ r. not (eqb (kind r) engineKind || eqb (kind r) stopKind)) rs
 
 -- whether testing was stopped
 abbrev pub stopped : List Record → Bool

@@ -1,7 +1,7 @@
 -- The answers for bytes: judging and evidence, from the tally of an accepted sheet's columns or from its refusal.
 use Rattle.arithmetic.proofs.Basics.{ℕ, _+_, _-_, _*_, _≤_, le-trans, mul-le-mul, mul-le-mul-left, arith, _≡_, refl, sym, ap, _∙_, true, false, _||_, List, [], map, eqb, length, take}
 use Rattle.rules.specs.Logarithm.{squarings}
-use Rattle.rules.specs.Sheet.{pollutants, morePollutants, size, records, stopKind}
+use Rattle.rules.specs.Sheet.{pollutants, morePollutants, size, most, records, stopKind}
 use Rattle.rules.specs.Plans.{planOf}
 use Rattle.rules.specs.Series as rules
 use Rattle.rules.specs.Refusals.{Check, check, accepted, refused}
@@ -9,7 +9,7 @@ use Rattle.rules.specs.Operations.{judgeBy, judge, evidenceBy, evidence}
 use Rattle.rules.specs.Sizes.{width, checkSized, judgeSized, evidenceSized, openPairs}
 use Rattle.accepted.specs.Sheets.{pollutantsIn, enginesIn}
 use Rattle.accepted.proofs.Faultless.{sound}
-use Rattle.accepted.proofs.Sheets.{inside, rows-fit, last-most, declared-length}
+use Rattle.accepted.proofs.Sheets.{inside, rows-fit, last-most}
 use Rattle.answers.proofs.Answers.{engineIn}
 use Rattle.answers.proofs.Answers as answers
 use Rattle.answers.proofs.Ranges.{engine-within}
@@ -67,13 +67,13 @@ module _ {z : Size} {b : List ℕ} {s : Summary} {plan : Plan} where
     pub gate-fits : GateFits g
     gate-fits = record { few = rw (o .gated) (omega (arith, gate-most (beforeIn (widthIs z) (planIs plan) b) (s .engines), engines-few)) }
 
-    pub judged-so : {k : ℕ} {t : Tally} → Kept z b (s .head) plan g k t → s .head ≤ k
+    pub judged-so : {k : ℕ} {t : Tally} → Kept z b (s .pollutants) plan g k t → s .pollutants ≤ k
         → {v : Verdict} → VerdictIs t g (eqb (s .kind) stopKind) (s .engines) v
         → {ds : Decisions} → (decisionsIs ds ≡ map (upTo (t .rows)) (decisionsIs (t .decisions))) × (declaredIs ds ≡ declaredIs (t .decisions))
         → JudgementIs (widthIs z) b (record { verdict = v; decisions = ds })
     unfolding judgeByTally tallied
     judged-so {k} {t} kept l {v} ve {ds} de =
-        let e : k ≡ length (pollutantsIn (widthIs z) b) = omega (arith, kept .few, declared-length (sheet o)) in
+        let e : k ≡ length (pollutantsIn (widthIs z) b) = omega (arith, kept .few, laws.pollutants-are (o .valid)) in
         let all = rw (e, tally-end (columnsOf (widthIs z) plan b) (pollutantsIn (widthIs z) b) (tallyIs t)) at (kept .left) in
         let marks = rw (e, marked-end (pollutantsIn (widthIs z) b) (declaredIs (t .decisions))) at (kept .marks) in
         record {
@@ -136,7 +136,7 @@ module _ {z : Size} {b : List ℕ} {s : Summary} (v : Valid z b s) {j : Judgemen
         rw ne (le-trans (mul-le-mul-left (size w) (omega (arith, tested))) (inside (laws.accepted-so v)))
 
     -- and is no longer than the longest sheet
-    pub evidence-small : size w * (s .head + n .engine) ≤ 1092
+    pub evidence-small : size w * (s .head + n .engine) ≤ most morePollutants * size morePollutants
     evidence-small =
         let h = width-range z .1 in
         omega (arith, evidence-fits, sound w b (v .accepts) .longest, h, mul-le-mul h h)

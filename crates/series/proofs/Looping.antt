@@ -8,7 +8,7 @@ use Rattle.rules.specs.Series as rules
 use Rattle.rules.specs.Refusals.{greatestDeviation}
 use Rattle.accepted.specs.Sheets.{recordAt, pollutantsIn, enginesIn, AcceptedSheet}
 use Rattle.accepted.proofs.ByNumber.{InOrder}
-use Rattle.accepted.proofs.Sheets.{order, declared-length, pollutant-is}
+use Rattle.accepted.proofs.Sheets.{order, declared-first, pollutant-is}
 use Rattle.record.specs.declared.Size.{Size}
 use Rattle.record.specs.Sizes.{widthIs}
 use Rattle.faults.specs.declared.Summary.{Summary}
@@ -57,9 +57,9 @@ pub record Opened (z : Size) (b : List ℕ) (s : Summary) (plan : Plan) (g : Gat
   pub planned : planIs plan ≡ planOf (s .plan)
   pub gated : gateIs g ≡ gateOf (widthIs z) (planIs plan) b (s .engines)
 
--- what the loop keeps after k of the pollutants before the record start
-pub record Kept (z : Size) (b : List ℕ) (start : ℕ) (plan : Plan) (g : Gate) (k : ℕ) (t : Tally) : Type 0 where
-  pub few : k ≤ start
+-- what the loop keeps after k of so many pollutants
+pub record Kept (z : Size) (b : List ℕ) (many : ℕ) (plan : Plan) (g : Gate) (k : ℕ) (t : Tally) : Type 0 where
+  pub few : k ≤ many
   pub lower : t .rows ≤ rowsOf (gateIs g)
   pub left : columns.tally (columnsOf (widthIs z) plan b) (drop k (pollutantsIn (widthIs z) b)) (tallyIs t)
       ≡ columns.tally (columnsOf (widthIs z) plan b) (pollutantsIn (widthIs z) b) (columns.started morePollutants (rowsOf (gateIs g)))
@@ -72,21 +72,25 @@ module _ {z : Size} {b : List ℕ} {s : Summary} {plan : Plan} {g : Gate} (o : O
   pub sheet : AcceptedSheet (widthIs z) b (planIs plan) (s .head)
   sheet = rw (o .planned) (laws.accepted-so (o .valid))
 
+  -- the pollutants stand before the first engine
+  pub pollutants-first : s .pollutants ≤ s .head
+  pollutants-first = rw (laws.pollutants-are (o .valid)) (declared-first sheet)
+
   each : (p : Pollutant) → Column (columnsOf (widthIs z) plan b p)
   each p = is-column (beforeIn (widthIs z) (planIs plan) b) (rowOf (planIs plan) squarings (enginesIn (widthIs z) b) p)
 
   pub kept-none : {rows : ℕ} {ds : Decisions} → rows ≡ rowsOf (gateIs g) → ds ≡ noDecisions
-      → Kept z b (s .head) plan g 0 (record { rows = rows; latest = 0; failed = false; waits = false; decisions = ds })
+      → Kept z b (s .pollutants) plan g 0 (record { rows = rows; latest = 0; failed = false; waits = false; decisions = ds })
   unfolding columns.started
   kept-none re de = rw (re, de) (record { few = omega arith; lower = omega arith; left = refl; marks = refl })
 
-  module _ {k : ℕ} {t : Tally} (kept : Kept z b (s .head) plan g k t) (l : k < s .head)
+  module _ {k : ℕ} {t : Tally} (kept : Kept z b (s .pollutants) plan g k t) (l : k < s .pollutants)
       {n L d : ℕ} (e : record { number = n; limit = L; deviation = d } ≡ pollutant (recordAt (widthIs z) b k)) where
-    is-pollutant : getD ps k (pollutant []) ≡ record { number = n; limit = L; deviation = d }
-    is-pollutant = pollutant-is sheet k l ∙ sym e
-
     in-list : k < length ps
-    in-list = rw (declared-length sheet) l
+    in-list = rw (← (laws.pollutants-are (o .valid))) l
+
+    is-pollutant : getD ps k (pollutant []) ≡ record { number = n; limit = L; deviation = d }
+    is-pollutant = pollutant-is sheet k in-list ∙ sym e
 
     pub column-range : ColumnRange (widthIs z) b (s .head) plan n L d (t .rows)
     column-range =
@@ -101,7 +105,7 @@ module _ {z : Size} {b : List ℕ} {s : Summary} {plan : Plan} {g : Gate} (o : O
 
     pub kept-more : {x : Decision} → ColumnIs (widthIs z) plan b n L d (t .rows) x → {u : Tally}
         → (tallyIs u ≡ columns.counted n (decisionIs x) (tallyIs t)) × (u .decisions ≡ decisionsWith n x (t .decisions))
-        → Kept z b (s .head) plan g (k + 1) u
+        → Kept z b (s .pollutants) plan g (k + 1) u
     kept-more {x} xe {u} ue =
         let p : Pollutant = record { number = n; limit = L; deviation = d } in
         let w : tallyIs u ≡ columns.counted n (columnsOf (widthIs z) plan b p (t .rows)) (tallyIs t) = ue .0 ∙ (rw (xe .decides) refl) in

@@ -91,12 +91,13 @@ impl Tally {
     }
 }
 
-// The judgement of a sheet that the check accepts: the columns of its declared pollutants, whose records stand before the first engine's, and the verdict on them together.
+// The judgement of a sheet that the check accepts: the columns of its declared pollutants, which are its first records, and the verdict on them together.
 pub(crate) fn judgement_of(size: Size, bytes: &[u8], sheet: Summary) -> Judgement
     requires { ⌜ Valid size (now bytes) sheet ⌝ }
     ensures { λ j. ⌜ JudgementIs (widthIs size) (now (bytes .entry)) j ⌝ }
 {
     let plan = Plan::of(sheet.plan);
+    let declared = sheet.pollutants as usize;
     let start = sheet.head as usize;
     let gate = gate_of(size, bytes, start, sheet.engines as usize, plan);
     let mut t = Tally {
@@ -107,7 +108,7 @@ pub(crate) fn judgement_of(size: Size, bytes: &[u8], sheet: Summary) -> Judgemen
         decisions: Decisions::none(),
     };
     let mut k: usize = 0;
-    while k < start {
+    while k < declared {
         let r = record_at(size, bytes, k);
         let number = number_of(r);
         let d = column(

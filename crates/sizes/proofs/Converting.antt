@@ -58,7 +58,7 @@ module _ (w k q : ℕ) where
     widened-narrowed = sheets.narrow-widen w k b (sound w b checked .whole)
 
   -- ---- A sheet accepted at w + k that declares no pollutant above w: its narrowed form
-  -- (The bytes of a limit and a deviation, 4 to 11, lie in a record where the format has room for two pollutants.)
+  -- (The bytes of a limit and a deviation, or of a speed and a date, 4 to 11, lie in a record where the format has room for two pollutants.)
 
   module _ (room : 2 ≤ w) (b : List ℕ) (a : Accepted (w + k) q b) (o : declaresAbove w k b ≡ false) where
     checked-wide : check (w + k) b ≡ accepted

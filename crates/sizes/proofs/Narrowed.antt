@@ -1,5 +1,5 @@
 -- Accepted records of w + k pollutants that declare none above w are zero from there on: each is the widened form of its narrowed one.
-use Rattle.arithmetic.proofs.Basics.{ℕ, zero, suc, _+_, _-_, _*_, _/_, _%_, _≤_, _<_, arith, _≡_, refl, sym, ap, _∙_, false, not, List, [], _∷_, _++_, map}
+use Rattle.arithmetic.proofs.Basics.{ℕ, zero, suc, _+_, _-_, _*_, _/_, _%_, _≤_, _<_, arith, _≡_, refl, sym, ap, _∙_, false, not, _||_, List, [], _∷_, _++_, map}
 use Rattle.arithmetic.proofs.Basics.{eqb, length, take, drop, replicate, length-drop, length-take-le, take-append-drop, getD-take, getD-drop, getD-replicate, ext-getD}
 use Rattle.arithmetic.proofs.Basics.{length-replicate, eqb-true, not-false, never, or-false, or-same, any-none}
 use Rattle.rules.specs.Tools.{byte, four}
@@ -42,7 +42,8 @@ zero-of-four r j (suc (suc zero)) e h = omega arith
 zero-of-four r j (suc (suc (suc zero))) e h = omega arith
 zero-of-four r j (suc (suc (suc (suc m)))) e h = absurd (omega arith)
 
--- ---- the bytes above w. (Those of a limit and a deviation, 4 to 11, lie below where there is room for two pollutants.)
+-- ---- the bytes above w. (Those of a limit and a deviation or of a speed and a date, 4 to 11, lie below where there is room for two
+-- pollutants.)
 
 module _ (w k : ℕ) (room : 2 ≤ w) where
   pub zero-above : (before : List Record) (r : Record) → faultOf (w + k) before r ≡ 0 → above w (declared before) ≡ false
@@ -58,7 +59,8 @@ module _ (w k : ℕ) (room : 2 ≤ w) where
       let b = none-of (badValue (declared before) r) (w + k) (g .measured (rw e refl)) p (omega arith) (omega arith) in
       let z = eqb-true (four r (4 * p)) 0 (not-false _ (rw (undeclared-above w (declared before) a p (omega arith)) at b)) in
       rw s at (zero-of-four r (4 * p) (i % 4) z (omega arith)))
-      (λ e. zero-byte r 1 (size (w + k)) i (rw e at (g .zeroed)) (omega arith) h)
+      (λ e. zero-byte r 1 (size (w + k)) i (simp or-same at (rw e at (g .zeroed))) (omega arith) h)
+      (λ e. zero-byte r 12 (size (w + k)) i (or-false (nonzero r 1 2 || nonzero r 6 8) (nonzero r 12 (size (w + k))) (rw e at (g .zeroed)) .1) (omega arith) h)
       (λ n o. never (sym (ap not o) ∙ g .kinds))
 
   pub widened-again : (before rs : List Record) → Full (size (w + k)) rs → Clean (w + k) before rs → above w (declared before) ≡ false

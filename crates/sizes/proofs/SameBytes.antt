@@ -1,15 +1,16 @@
 -- Two records that read the same at every place, past their ends too, where a byte counts as 0: a record and its widened form are such.
 -- Every field, every fault and every row is the same.
-use Rattle.arithmetic.proofs.Basics.{ℕ, zero, suc, _+_, _-_, _*_, _≡_, refl, sym, ap, Bool, true, false, not, cond, List, [], _∷_, _++_, map, ltb, eqb}
+use Rattle.arithmetic.proofs.Basics.{ℕ, zero, suc, _+_, _-_, _*_, _≡_, refl, sym, ap, Bool, true, false, not, _||_, cond, List, [], _∷_, _++_, map, ltb, eqb}
 use Rattle.arithmetic.proofs.Basics.{length, take, drop, replicate, any-part, any-same}
 use Rattle.arithmetic.proofs.Pairs.{Pairs, none, more, pairs-length, pairs-take, pairs-drop, pairs-follow, pairs-those, same-map, same-any}
-use Rattle.rules.specs.Tools.{any, those, byte, four}
-use Rattle.rules.specs.Sheet.{Record, Pollutant, size, numbers, pollutantKind, engineKind, stopKind, kind, number, plan, limit, deviation, cause, measurement, ofKind}
-use Rattle.rules.specs.Sheet.{engines, stopped, planNumber, pollutant, declared, gross}
+use Rattle.rules.specs.Tools.{any, those, byte, two, four}
+use Rattle.rules.specs.Sheet.{Record, Pollutant, size, numbers, pollutantKind, engineKind, stopKind, smallEngineKind, kind, number, plan, limit, deviation, cause, measurement}
+use Rattle.rules.specs.Sheet.{volume, speed, date, ofKind, engines, heading, stopped, planNumber, pollutant, declared, gross}
 use Rattle.rules.specs.Plans.{Plan, knownDeviation, unknownDeviation, attributes, inService, corrected, planOf}
 use Rattle.rules.specs.Series.{Standing, Series, ongoing, passed, failed, referred, Before, early, equalCause, referral, leftOpen, statistics, inServiceBefore}
 use Rattle.rules.specs.Series.{beforeRow, look, rowBy, walk, after, answer, judgeRecords}
-use Rattle.rules.specs.Refusals.{misplaced, badNumber, badPlan, badLimit, badDeviation, badValue, badMeasurement, badCause, tooMany, nonzero, unused, faults, faultOf}
+use Rattle.rules.specs.Refusals.{misplaced, lastKind, badSmallEngine, badDate, badParticulate, badNumber, badPlan, badLimit, badDeviation, badValue, badMeasurement}
+use Rattle.rules.specs.Refusals.{badCause, tooMany, nonzero, unused, faults, faultOf}
 use Rattle.rules.specs.Converter.{widenedRecord}
 use Rattle.accepted.proofs.Faultless.{isOther}
 
@@ -35,6 +36,9 @@ same-widened k (r ∷ rs) = more (record { at = byte-append r (4 * k) }) (same-w
 -- ---- fields
 
 module _ (a b : Record) (s : SameBytes a b) where
+  same-two : (i : ℕ) → two a i ≡ two b i
+  same-two i = rw (s .at i, s .at (i + 1)) refl
+
   same-four : (i : ℕ) → four a i ≡ four b i
   same-four i = rw (s .at i, s .at (i + 1), s .at (i + 2), s .at (i + 3)) refl
 
@@ -60,11 +64,23 @@ module _ (a b : Record) (s : SameBytes a b) where
 
   same-cause : cause a ≡ cause b
   unfolding cause
-  same-cause = rw (s .at 2, s .at 3) refl
+  same-cause = same-two 2
 
   same-measurement : (p : ℕ) → measurement a p ≡ measurement b p
   unfolding measurement
   same-measurement p = same-four (4 * p)
+
+  same-volume : volume a ≡ volume b
+  unfolding volume
+  same-volume = same-two 2
+
+  same-speed : speed a ≡ speed b
+  unfolding speed
+  same-speed = same-two 4
+
+  same-date : date a ≡ date b
+  unfolding date
+  same-date = same-four 8
 
   same-pollutant : pollutant a ≡ pollutant b
   unfolding pollutant
@@ -94,9 +110,13 @@ same-those : (t : Record → Bool) → ((a b : Record) → SameBytes a b → t a
     → Pairs SameBytes (those t rs) (those t ts)
 same-those t i r = pairs-follow (λ a b h. h .1) (pairs-those t t i r)
 
-pub same-ofKind : (k : ℕ) {rs ts : List Record} → Pairs SameBytes rs ts → Pairs SameBytes (ofKind k rs) (ofKind k ts)
+same-ofKind : (k : ℕ) {rs ts : List Record} → Pairs SameBytes rs ts → Pairs SameBytes (ofKind k rs) (ofKind k ts)
 unfolding ofKind
 same-ofKind k r = same-those (λ a. eqb (kind a) k) (same-test k) r
+
+pub same-heading : {rs ts : List Record} → Pairs SameBytes rs ts → Pairs SameBytes (heading rs) (heading ts)
+unfolding heading
+same-heading r = same-those (λ a. not (eqb (kind a) engineKind || eqb (kind a) stopKind)) (λ a b s. rw (same-kind a b s) refl) r
 
 same-stopped : {rs ts : List Record} → Pairs SameBytes rs ts → stopped rs ≡ stopped ts
 same-stopped r = same-any (λ a. eqb (kind a) stopKind) (λ b. eqb (kind b) stopKind) (same-test stopKind) r
@@ -118,6 +138,20 @@ same-misplaced a b none s = rw (same-kind a b s) refl
 same-misplaced a b (more h r) s =
     rw (same-kind a b s, same-stopped (more h r), same-any isOther isOther (λ c d i. ap not (same-test pollutantKind c d i)) (more h r)) refl
 
+same-lastKind : {rs ts : List Record} → Pairs SameBytes rs ts → lastKind rs ≡ lastKind ts
+same-lastKind none = refl
+same-lastKind (more {x} {y} s none) = same-kind x y s
+same-lastKind (more s (more h r)) = same-lastKind (more h r)
+
+same-badSmallEngine : {rs ts : List Record} → Pairs SameBytes rs ts → badSmallEngine rs ≡ badSmallEngine ts
+unfolding badSmallEngine
+same-badSmallEngine r =
+    rw (
+      same-any (λ a. eqb (kind a) smallEngineKind) (λ b. eqb (kind b) smallEngineKind) (same-test smallEngineKind) r,
+      same-lastKind r,
+      same-planNumber r,
+    ) refl
+
 same-badPlan : {rs ts : List Record} (a b : Record) → Pairs SameBytes rs ts → SameBytes a b → badPlan rs a ≡ badPlan ts b
 unfolding badPlan
 same-badPlan a b none s = rw (same-plan a b s) refl
@@ -130,13 +164,22 @@ module _ (a b : Record) (s : SameBytes a b) where
 
   same-unused : (w : ℕ) → unused w a ≡ unused w b
   unfolding unused
-  same-unused w = rw (same-kind a b s, same-nonzero a b s 3 4, same-nonzero a b s 12 (size w), same-nonzero a b s 1 2, same-nonzero a b s 1 (size w)) refl
+  same-unused w =
+      rw (
+        same-kind a b s,
+        same-nonzero a b s 3 4,
+        same-nonzero a b s 12 (size w),
+        same-nonzero a b s 1 2,
+        same-nonzero a b s 1 (size w),
+        same-nonzero a b s 6 8,
+      ) refl
 
   pub same-fault : (w : ℕ) {rs ts : List Record} → Pairs SameBytes rs ts → faultOf w rs a ≡ faultOf w ts b
-  unfolding faultOf faults badNumber badLimit badDeviation badCause tooMany
+  unfolding faultOf faults badDate badParticulate badNumber badLimit badDeviation badCause tooMany
   same-fault w r =
       rw (
         same-misplaced a b r s,
+        same-badSmallEngine r,
         same-badPlan a b r s,
         same-declared r,
         same-badMeasurement w _,
@@ -150,6 +193,9 @@ module _ (a b : Record) (s : SameBytes a b) where
         same-deviation a b s,
         same-cause a b s,
         same-gross a b s _,
+        same-volume a b s,
+        same-speed a b s,
+        same-date a b s,
       ) refl
 
 -- ---- the series

@@ -2,7 +2,7 @@
 use Rattle.arithmetic.proofs.Basics.{ℕ, _+_, _*_, _%_, _≤_, mul-mod-right, mul-le-mul-left, lt-of-mul-lt-mul-right, div-le-of-le-mul, arith, _≡_, refl, sym}
 use Rattle.arithmetic.proofs.Basics.{ap, _∙_, false, _||_, cond, List, [], map, eqb, length, take, ne-eqb, le-ltb, by-test}
 use Rattle.arithmetic.proofs.Pairs.{none, pairs-length}
-use Rattle.rules.specs.Sheet.{size, most, records, pollutantKind, ofKind, declared}
+use Rattle.rules.specs.Sheet.{size, most, records, ofKind, heading, declared}
 use Rattle.rules.specs.Series.{Answer, refusal, judgement, judgeRecords}
 use Rattle.rules.specs.Refusals.{accepted, checkFrom, badLength, check}
 use Rattle.rules.specs.Operations.{judge, through, evidenceBy, evidence}
@@ -12,7 +12,7 @@ use Rattle.accepted.proofs.Records.{whole-records, length-records}
 use Rattle.accepted.proofs.Faultless.{sound, cond-accepted}
 use Rattle.answers.proofs.Answers.{judge-accepted}
 use Rattle.sizes.proofs.Joined.{full-take, take-joined, full-records, joined-whole, records-joined, joined-records}
-use Rattle.sizes.proofs.SameBytes.{same-widened, same-ofKind, same-declared, same-judgement}
+use Rattle.sizes.proofs.SameBytes.{same-widened, same-heading, same-declared, same-judgement}
 use Rattle.sizes.proofs.Columns.{own-above, judge-columns}
 use Rattle.sizes.proofs.Widened.{check-widened, length-widened, narrowed-again}
 use Rattle.sizes.proofs.Narrowed.{widened-again, length-narrowed}
@@ -100,9 +100,9 @@ module _ (w k : ℕ) (b : List ℕ) (e : check w b ≡ accepted) where
   through-widen : (n : ℕ) → through (w + k) n (widen w k b) ≡ widen w k (through w n b)
   unfolding widen
   through-widen n =
-      let c : length (ofKind pollutantKind (records (w + k) (widen w k b))) ≡ length (ofKind pollutantKind (records w b)) =
-      rw (records-widen w k b) (sym (pairs-length (same-ofKind pollutantKind (same-widened k (records w b))))) in
-      rw c (take-mapped w (size (w + k)) (widenedRecord k) (length-widened w k) b (length (ofKind pollutantKind (records w b)) + n) (sound w b e .whole))
+      let c : length (heading (records (w + k) (widen w k b))) ≡ length (heading (records w b)) =
+      rw (records-widen w k b) (sym (pairs-length (same-heading (same-widened k (records w b))))) in
+      rw c (take-mapped w (size (w + k)) (widenedRecord k) (length-widened w k) b (length (heading (records w b)) + n) (sound w b e .whole))
 
   widen-nothing : widen w k [] ≡ []
   unfolding widen
@@ -130,7 +130,7 @@ module _ (w : ℕ) (b : List ℕ) (h : length b % size w ≡ 0) where
   whole-by (refusal number place) = joined-whole w [] tt
   whole-by (judgement v n ground ps) =
       by-test (λ t. length (cond t (through w n b) b) % size w ≡ 0) (eqb ground 1 || eqb ground 2)
-      (λ _. take-whole (length (ofKind pollutantKind (records w b)) + n)) (λ _. h)
+      (λ _. take-whole (length (heading (records w b)) + n)) (λ _. h)
 
   evidence-whole : (q : ℕ) → length (evidence w q b) % size w ≡ 0
   unfolding evidence

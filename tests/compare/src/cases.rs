@@ -1,9 +1,9 @@
 //! The calls to compare: report and append on one sheet, with lent memory of ordinary and of
 //! awkward lengths, and with sizes of a record that are none.
 
-use crate::draft::{random_draft, stop_record};
+use crate::draft::{random_draft, stop_record, SMALL};
 use crate::memory::{Edge, Lender};
-use crate::paper::Report;
+use crate::paper::{Report, Reported};
 use crate::tally::hexadecimal;
 use random::Random;
 use second::{append, report, Document, Document01, Refusal};
@@ -37,11 +37,22 @@ pub fn code(result: Result<(), Refusal>) -> u32 {
 }
 
 /// What the call returns, and the report of a sheet.
-pub fn reported(operations: &dyn Operations, size: usize, sheet: &[u8]) -> (u32, Report) {
+pub fn reported(operations: &dyn Operations, size: usize, sheet: &[u8]) -> Reported {
+    let mut report = unwritten_report(size);
+    let code = operations.report(size, sheet, &mut report[..size]);
+    (code, report)
+}
+
+/// What has to be reported of a refused sheet: nothing is written.
+pub fn refused(size: usize, number: u8, record: u8) -> Reported {
+    let code = Refusal { number, record }.code();
+    (code, unwritten_report(size))
+}
+
+fn unwritten_report(size: usize) -> Report {
     let mut report = [0; LONGEST_REPORT];
-    let output = &mut report[..size];
-    output.fill(UNWRITTEN);
-    (operations.report(size, sheet, output), report)
+    report[..size].fill(UNWRITTEN);
+    report
 }
 
 /// One call with all it is lent.
@@ -305,18 +316,19 @@ fn used_lengths(size: usize, sheet: usize) -> [usize; 11] {
     ]
 }
 
-/// A record to append: one that is on the sheet, a stop, or no record by its length.
+/// A record to append: one that is on the sheet, a small engine, a stop, or no record by its length.
 #[derive(Clone, Copy)]
 enum Added {
     First,
     Last,
+    SmallEngine,
     Stop(usize),
     Zeros(usize),
 }
 
 fn records(size: usize, sheet: &[u8]) -> Vec<Added> {
     let mut records: Vec<Added> = [0, 19, 21, 27, 29].map(Added::Zeros).into();
-    records.extend([Added::Zeros(size)]);
+    records.extend([Added::Zeros(size), Added::SmallEngine]);
     records.extend(SIZES.map(Added::Stop));
     if sheet.len() >= size {
         records.extend([Added::First, Added::Last]);
@@ -329,6 +341,7 @@ impl Added {
         match self {
             Added::First => sheet[..size].to_vec(),
             Added::Last => sheet[sheet.len() - size..].to_vec(),
+            Added::SmallEngine => SMALL.record(size),
             Added::Stop(size) => stop_record(size),
             Added::Zeros(length) => vec![0; length],
         }

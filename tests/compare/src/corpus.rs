@@ -1,15 +1,18 @@
-//! The sheets that every suite goes through, in records of one size: pairs on a line and series
-//! exact to a unit of W, both chosen by the paper, the directed sheets of plans 3, 4 and 5, damaged
-//! sheets for every refusal, the longest sheets, sheets of the other size, and random ones.
+//! The sheets that every suite goes through, in records of one size: the directed sheets of small
+//! engines, pairs on a line and series exact to a unit of W, both chosen by the paper, the directed
+//! sheets of plans 3, 4 and 5, some of all these with a small engine put in, damaged sheets for every
+//! refusal, the longest sheets, sheets of the other size, and random ones.
 
 use crate::attributes;
 use crate::corrected;
-use crate::draft::{random_draft, random_draft_of, random_draft_under, Draft};
+use crate::draft::{full_draft, numbers, random_draft, random_draft_under, random_small_engine};
+use crate::draft::{stop_record, Draft, ENGINE, POLLUTANT, SMALL_ENGINE, STOP};
 use crate::exact::{self, Stand};
 use crate::pairs::{self, Pair};
 use crate::paper::{Cell, Chosen, Paper, Single};
 use crate::refusals::{unused_bytes, Sheet, Way, WAYS};
 use crate::service;
+use crate::small_engines;
 use random::Random;
 use second::{check, Document, Document01, PLANS, UNKNOWN_DEVIATION};
 use std::fmt;
@@ -22,7 +25,8 @@ pub struct Scale {
     /// Whether series exact to a unit of W are looked for.
     pub exact: bool,
     pub rounds_of_damage: usize,
-    /// One of so many of the longest sheets, of those damaged twice and of plan 4's directed ones.
+    /// One of so many of the longest sheets that are damaged, of the sheets damaged twice and of plan
+    /// 4's directed ones.
     pub one_directed_in: usize,
     pub random_sheets: usize,
     pub promises: usize,
@@ -50,11 +54,13 @@ pub const QUICK: Scale = Scale {
 /// Where a sheet comes from.
 #[derive(Clone, Copy)]
 pub enum Origin {
+    SmallEngine,
     Pair(Cell),
     Exact(Cell, Stand),
     Attributes,
     InService,
     Corrected,
+    PutIn,
     Damage(usize),
     TwoDamages(usize, usize),
     /// By the record that has the byte.
@@ -67,6 +73,7 @@ pub enum Origin {
 impl fmt::Display for Origin {
     fn fmt(&self, formatter: &mut fmt::Formatter) -> fmt::Result {
         match *self {
+            Origin::SmallEngine => write!(formatter, "directed sheet of a small engine"),
             Origin::Pair(Cell { plan, row, line }) => {
                 write!(formatter, "line pair, plan {plan}, row {row}, {line:?}")
             }
@@ -79,6 +86,7 @@ impl fmt::Display for Origin {
             Origin::Attributes => write!(formatter, "directed sheet of plan 3"),
             Origin::InService => write!(formatter, "directed sheet of plan 4"),
             Origin::Corrected => write!(formatter, "directed sheet of plans 2 and 5"),
+            Origin::PutIn => write!(formatter, "sheet with a small engine put in"),
             Origin::Damage(way) => {
                 write!(
                     formatter,
@@ -143,13 +151,19 @@ fn exact_series(paper: &Paper, cell: Cell, random: &mut Random) -> [(Cell, Stand
     })
 }
 
+/// Of so many sheets of pairs, one also has a small engine put in; odd, so that it is by turns the
+/// one and the other of a pair.
+const ONE_PUT_IN: usize = 5;
+
 pub struct Corpus {
     /// Of the records.
     pub size: usize,
+    small_engines: Vec<Chosen>,
     pub pairs: Vec<(Cell, [Chosen; 2])>,
     exact: Vec<(Cell, Stand, Chosen)>,
     attributes: Vec<Chosen>,
     corrected: Vec<Chosen>,
+    put_in: Vec<Chosen>,
     directed: Vec<(Origin, Vec<u8>)>,
     random_sheets: usize,
 }
@@ -161,12 +175,21 @@ impl Corpus {
             pairs,
             exact,
         } = series;
+        let pairs = pair_sheets(paper, pairs, size);
+        let attributes = attributes::sheets(paper, size);
+        let corrected = corrected::sheets(size);
+        let of_pairs = pairs.iter().flat_map(|(_, sheets)| sheets);
+        let some_of_pairs = of_pairs.step_by(ONE_PUT_IN);
+        let put_in =
+            small_engines::put_in(size, some_of_pairs.chain(&attributes).chain(&corrected));
         Corpus {
             size,
-            pairs: pair_sheets(paper, pairs, size),
+            small_engines: small_engines::sheets(size),
+            pairs,
             exact: exact_sheets(paper, exact, size),
-            attributes: attributes::sheets(paper, size),
-            corrected: corrected::sheets(size),
+            attributes,
+            corrected,
+            put_in,
             directed: directed_sheets(size, scale),
             random_sheets: scale.random_sheets,
         }
@@ -174,18 +197,16 @@ impl Corpus {
 
     /// The sheets that come with the report asked for.
     pub fn chosen(&self) -> impl Iterator<Item = (Origin, &Chosen)> {
-        let pairs = self.pairs.iter().flat_map(|(cell, sheets)| {
-            let sheets = sheets.iter();
-            sheets.map(|chosen| (Origin::Pair(*cell), chosen))
-        });
+        let pairs = self.pairs.iter();
+        let pairs = pairs.flat_map(|(cell, sheets)| labelled(Origin::Pair(*cell), sheets));
         let exact = self.exact.iter();
         let exact = exact.map(|(cell, stand, chosen)| (Origin::Exact(*cell, *stand), chosen));
-        let attributes = self.attributes.iter();
-        let corrected = self.corrected.iter();
-        pairs
+        labelled(Origin::SmallEngine, &self.small_engines)
+            .chain(pairs)
             .chain(exact)
-            .chain(attributes.map(|chosen| (Origin::Attributes, chosen)))
-            .chain(corrected.map(|chosen| (Origin::Corrected, chosen)))
+            .chain(labelled(Origin::Attributes, &self.attributes))
+            .chain(labelled(Origin::Corrected, &self.corrected))
+            .chain(labelled(Origin::PutIn, &self.put_in))
     }
 
     /// Shows every sheet with its origin.
@@ -205,11 +226,6 @@ impl Corpus {
         }
         ControlFlow::Continue(())
     }
-}
-
-/// The pollutants that the size has a place for.
-fn numbers(size: usize) -> impl Iterator<Item = u8> + Clone {
-    1..=Document01.pollutants(size) as u8
 }
 
 /// Each pair is one pollutant's, by turns.
@@ -245,10 +261,10 @@ fn directed_sheets(size: usize, scale: Scale) -> Vec<(Origin, Vec<u8>)> {
     for round in 0..scale.rounds_of_damage {
         directed.extend(damaged_sheets(size, &mut random));
         let longest = longest_draft(size, UP_TO_32[round % UP_TO_32.len()], &mut random);
-        let damaged = damaged_longest_sheets(size, &longest.bytes(), &mut random);
-        let damaged = damaged.into_iter().step_by(scale.one_directed_in);
-        let sheets = undamaged_longest_sheets(longest).into_iter().chain(damaged);
-        directed.extend(labelled(Origin::Longest, sheets));
+        let damaged = damaged_longest_sheets(&longest, &mut random).into_iter();
+        let damaged = damaged.step_by(scale.one_directed_in);
+        directed.extend(labelled(Origin::Longest, longest_sheets(&longest)));
+        directed.extend(labelled(Origin::Longest, damaged));
         directed.extend(labelled(Origin::OtherSize, other_sheets(size, &mut random)));
     }
     let twice_damaged = twice_damaged_sheets(size, &mut random).into_iter();
@@ -258,10 +274,10 @@ fn directed_sheets(size: usize, scale: Scale) -> Vec<(Origin, Vec<u8>)> {
     directed
 }
 
-fn labelled(
+fn labelled<T>(
     origin: Origin,
-    sheets: impl IntoIterator<Item = Vec<u8>>,
-) -> impl Iterator<Item = (Origin, Vec<u8>)> {
+    sheets: impl IntoIterator<Item = T>,
+) -> impl Iterator<Item = (Origin, T)> {
     sheets.into_iter().map(move |sheet| (origin, sheet))
 }
 
@@ -305,7 +321,7 @@ fn twice_damaged_sheets(size: usize, random: &mut Random) -> Vec<(Origin, Vec<u8
 }
 
 fn starts_with_pollutant(sheet: &Sheet) -> bool {
-    sheet.bytes.len() >= sheet.size && sheet.bytes[0] == 1
+    sheet.bytes.len() >= sheet.size && sheet.bytes[0] == POLLUTANT
 }
 
 fn accepted_sheet(size: usize, plan: u8, random: &mut Random) -> Sheet {
@@ -320,9 +336,10 @@ fn accepted_sheet(size: usize, plan: u8, random: &mut Random) -> Sheet {
 /// The plans of the longest sheets, whose last row is 32.
 const UP_TO_32: [u8; 3] = [1, 2, 5];
 
-/// Whole, without its stop, and with the first four pollutants alone: the longest that can be
-/// narrowed.
-fn undamaged_longest_sheets(longest: Draft) -> [Vec<u8>; 3] {
+/// Whole, without its stop, without its small engine, and with the first four pollutants alone: the
+/// longest that can be narrowed. Then one of as many records that is refused for a record: a second
+/// stop in place of the small engine.
+fn longest_sheets(longest: &Draft) -> [Vec<u8>; 5] {
     let mut without_stop = longest.clone();
     without_stop.stopped = false;
     let mut of_four = longest.clone();
@@ -330,35 +347,48 @@ fn undamaged_longest_sheets(longest: Draft) -> [Vec<u8>; 3] {
     for engine in &mut of_four.engines {
         engine.measurements[4..].fill(0);
     }
-    [longest, without_stop, of_four].map(|draft| draft.bytes())
+    let without_small_engine = without_small_engine(longest).bytes();
+    let two_stops = [&without_small_engine[..], &stop_record(longest.size)].concat();
+    [
+        longest.bytes(),
+        without_stop.bytes(),
+        without_small_engine,
+        of_four.bytes(),
+        two_stops,
+    ]
 }
 
-/// With each damage that keeps the length.
-fn damaged_longest_sheets(size: usize, longest: &[u8], random: &mut Random) -> Vec<Vec<u8>> {
-    let spoil = |way: &Way| {
-        let bytes = longest.to_vec();
-        let mut sheet = Sheet { size, bytes };
-        let fits = (way.spoil)(&mut sheet, random);
-        (fits && sheet.bytes.len() == longest.len()).then_some(sheet.bytes)
-    };
-    WAYS.iter().filter_map(spoil).collect()
+fn without_small_engine(longest: &Draft) -> Draft {
+    let mut without = longest.clone();
+    without.small_engine = None;
+    without
 }
 
-/// Every pollutant, 32 engines and a stop.
-fn longest_draft(size: usize, plan: u8, random: &mut Random) -> Draft {
-    let all: Vec<u8> = numbers(size).collect();
-    loop {
-        let mut draft = random_draft_of(size, plan, &all, random);
-        if draft.engines.is_empty() {
-            continue;
+/// With each damage that keeps the length; and without the small engine, with each that brings it
+/// back to that length. F-1: "A sheet may hold 38 records", with or without kind 5, so that a record
+/// is refused, and not the length.
+fn damaged_longest_sheets(longest: &Draft, random: &mut Random) -> Vec<Vec<u8>> {
+    let size = longest.size;
+    let mut sheets = Vec::new();
+    for draft in [longest, &without_small_engine(longest)] {
+        for way in &WAYS {
+            let bytes = draft.bytes();
+            let mut sheet = Sheet { size, bytes };
+            let fits = (way.spoil)(&mut sheet, random);
+            if fits && sheet.bytes.len() == Document01.longest_sheet(size) {
+                sheets.push(sheet.bytes);
+            }
         }
-        while draft.engines.len() < Document01.last_row(plan) {
-            draft.engines.push(random.pick(&draft.engines));
-        }
-        draft.engines.truncate(Document01.last_row(plan));
-        draft.stopped = true;
-        return draft;
     }
+    sheets
+}
+
+/// Every pollutant, a small engine, 32 engines and a stop.
+fn longest_draft(size: usize, plan: u8, random: &mut Random) -> Draft {
+    let mut draft = full_draft(size, plan, random);
+    draft.put_small_engine(random_small_engine(random));
+    draft.stopped = true;
+    draft
 }
 
 /// A sheet of the other size, and its first bytes as far as they are whole records of both: 140
@@ -403,7 +433,7 @@ fn random_bytes(size: usize, random: &mut Random) -> Vec<u8> {
     if random.one_in(2) {
         sheet.truncate(sheet.len() - sheet.len() % size);
         for start in (0..sheet.len()).step_by(size) {
-            sheet[start] = random.between(1, 3) as u8;
+            sheet[start] = random.pick(&[POLLUTANT, ENGINE, STOP, SMALL_ENGINE]);
         }
     }
     sheet

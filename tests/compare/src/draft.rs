@@ -1,9 +1,21 @@
-//! A sheet in the making, as document 01's records describe it, and F-10's with six pollutants.
+//! A sheet in the making, as document 01's records describe it, F-1's with a small engine, and F-10's
+//! with six pollutants.
 
+use crate::calendar::random_day;
 use random::Random;
-use second::{judge, Document, Document01, Judgement, Verdict, MOST_POLLUTANTS, PLANS};
+use second::{judge, Document, Document01};
+use second::{Judgement, Refusal, Verdict, MOST_POLLUTANTS, PLANS};
 
 pub const LARGEST: u32 = 9_999_999;
+
+/// The kinds of a record.
+pub const POLLUTANT: u8 = 1;
+pub const ENGINE: u8 = 2;
+pub const STOP: u8 = 3;
+pub const SMALL_ENGINE: u8 = 5;
+
+/// The pollutant of which a small engine's limit is asked.
+pub const PARTICULATES: u8 = 4;
 
 #[derive(Clone, Copy)]
 pub struct Pollutant {
@@ -21,12 +33,53 @@ pub struct Engine {
     pub measurements: Measurements,
 }
 
+/// Kind 5.
+#[derive(Clone, Copy)]
+pub struct SmallEngine {
+    pub volume: u16,
+    pub speed: u16,
+    pub date: u32,
+}
+
+impl SmallEngine {
+    pub fn record(&self, size: usize) -> Vec<u8> {
+        let mut record = vec![SMALL_ENGINE, 0];
+        record.extend(self.volume.to_le_bytes());
+        record.extend(self.speed.to_le_bytes());
+        record.extend([0, 0]);
+        record.extend(self.date.to_le_bytes());
+        end_record(&mut record, size);
+        record
+    }
+
+    /// "Under 700 cm³ and above 3000 per minute, the particulate limit of production is 250 through
+    /// 19980930 and 150 after [..]; every other engine has 150."
+    pub fn particulate_limit(&self) -> u32 {
+        match self {
+            SmallEngine {
+                volume: ..=699,
+                speed: 3001..,
+                date: ..=19_980_930,
+            } => 250,
+            _ => 150,
+        }
+    }
+}
+
+/// An engine of the rule, on its last day: its limit is 250.
+pub const SMALL: SmallEngine = SmallEngine {
+    volume: 699,
+    speed: 3001,
+    date: 19_980_930,
+};
+
 #[derive(Clone)]
 pub struct Draft {
     /// Of its records.
     pub size: usize,
     pub plan: u8,
     pub pollutants: Vec<Pollutant>,
+    pub small_engine: Option<SmallEngine>,
     pub engines: Vec<Engine>,
     pub stopped: bool,
 }
@@ -59,22 +112,34 @@ impl Draft {
             size,
             plan,
             pollutants,
+            small_engine: None,
             engines: Vec::new(),
             stopped: false,
+        }
+    }
+
+    /// With the small engine's record, and its limit if particulates are declared.
+    pub fn put_small_engine(&mut self, small_engine: SmallEngine) {
+        self.small_engine = Some(small_engine);
+        let mut pollutants = self.pollutants.iter_mut();
+        if let Some(declared) = pollutants.find(|pollutant| pollutant.number == PARTICULATES) {
+            declared.limit = small_engine.particulate_limit();
         }
     }
 
     pub fn bytes(&self) -> Vec<u8> {
         let mut sheet = Vec::with_capacity(Document01.longest_sheet(self.size));
         for pollutant in &self.pollutants {
-            sheet.extend([1, pollutant.number, self.plan, 0]);
+            sheet.extend([POLLUTANT, pollutant.number, self.plan, 0]);
             sheet.extend(pollutant.limit.to_le_bytes());
             sheet.extend(pollutant.deviation.to_le_bytes());
             end_record(&mut sheet, self.size);
         }
+        let small_engine = self.small_engine.iter();
+        sheet.extend(small_engine.flat_map(|small_engine| small_engine.record(self.size)));
         let measured = Document01.pollutants(self.size);
         for engine in &self.engines {
-            sheet.extend([2, 0]);
+            sheet.extend([ENGINE, 0]);
             sheet.extend(engine.cause.to_le_bytes());
             let measurements = engine.measurements[..measured].iter();
             sheet.extend(measurements.flat_map(|x| x.to_le_bytes()));
@@ -85,13 +150,16 @@ impl Draft {
         sheet
     }
 
-    /// What document 01 answers, for a draft that is an accepted sheet.
-    pub fn judged(&self) -> Judgement {
-        judge(&Document01, self.size, &self.bytes()).expect("an accepted sheet")
+    /// What document 01 answers.
+    pub fn judged(&self) -> Result<Judgement, Refusal> {
+        judge(&Document01, self.size, &self.bytes())
     }
 
-    pub fn is_undecided(&self) -> bool {
-        self.judged().verdict == Verdict::Another
+    /// "A sheet is accepted if judging doesn't refuse it, and decided if its verdict is then not
+    /// another."
+    pub fn is_decided(&self) -> bool {
+        let judged = self.judged();
+        judged.is_ok_and(|judgement| judgement.verdict != Verdict::Another)
     }
 
     /// Adds an engine; under plan 4 a gross emitter gets the cause.
@@ -117,13 +185,23 @@ fn end_record(sheet: &mut Vec<u8>, size: usize) {
 }
 
 pub fn stop_record(size: usize) -> Vec<u8> {
-    let mut record = vec![3];
+    let mut record = vec![STOP];
     end_record(&mut record, size);
     record
 }
 
-/// A random sheet that the check accepts, or now and then one with an engine too many or with a
-/// stop under plan 4.
+/// The plans under which a sheet may have a small engine.
+pub fn plans_of_small_engines() -> impl Iterator<Item = u8> {
+    (1..=PLANS).filter(|&plan| plan != 4)
+}
+
+/// The pollutants that the size has a place for.
+pub fn numbers(size: usize) -> impl Iterator<Item = u8> + Clone {
+    1..=Document01.pollutants(size) as u8
+}
+
+/// A random sheet that the check accepts, or now and then one with an engine too many, or with a
+/// small engine or a stop under plan 4.
 pub fn random_draft(size: usize, random: &mut Random) -> Draft {
     let plan = random.between(1, PLANS.into()) as u8;
     random_draft_under(size, plan, random)
@@ -145,6 +223,9 @@ pub fn random_draft_of(size: usize, plan: u8, numbers: &[u8], random: &mut Rando
         },
     });
     let mut draft = Draft::new(size, plan, pollutants.collect());
+    if random.one_in(if plan == 4 { 40 } else { 3 }) {
+        draft.put_small_engine(random_small_engine(random));
+    }
     let spreads: Vec<Spread> = numbers.iter().map(|_| random.pick(&SPREADS)).collect();
     let count = random_count(random, Document01.last_row(plan));
     let kept_open = random.one_in(4);
@@ -156,18 +237,40 @@ pub fn random_draft_of(size: usize, plan: u8, numbers: &[u8], random: &mut Rando
     draft
 }
 
-/// Adds one engine; with several tries, the first that leaves the series undecided if there is one.
+/// With every pollutant, and as many engines as the plan has rows for: those of a random sheet, some
+/// of them again.
+pub fn full_draft(size: usize, plan: u8, random: &mut Random) -> Draft {
+    let all: Vec<u8> = numbers(size).collect();
+    let mut draft = loop {
+        let draft = random_draft_of(size, plan, &all, random);
+        if !draft.engines.is_empty() {
+            break draft;
+        }
+    };
+    let last = Document01.last_row(plan);
+    while draft.engines.len() < last {
+        draft.engines.push(random.pick(&draft.engines));
+    }
+    draft.engines.truncate(last);
+    draft
+}
+
+/// Adds one engine; with several tries, the first that does not decide the sheet if there is one.
 fn test_one(random: &mut Random, draft: &mut Draft, spreads: &[Spread], tries: usize) {
     for left in (0..tries).rev() {
         let measurements = random_measurements(random, draft, spreads);
         let cause = random_cause(random);
         draft.test(measurements, cause);
-        let fits = draft.engines.len() <= Document01.last_row(draft.plan);
-        if left == 0 || !fits || draft.is_undecided() {
+        if left == 0 || !draft.is_decided() {
             return;
         }
         draft.engines.pop();
     }
+}
+
+/// The pollutants of a set: number 1 is its lowest bit.
+pub fn numbers_in(size: usize, set: u32) -> impl Iterator<Item = u8> {
+    numbers(size).filter(move |number| set >> (number - 1) & 1 == 1)
 }
 
 /// One pollutant alone, or any of them.
@@ -178,10 +281,21 @@ fn random_numbers(size: usize, random: &mut Random) -> Vec<u8> {
     } else {
         random.between(1, (1 << pollutants) - 1)
     };
-    let numbers = 1..=pollutants as u8;
-    numbers
-        .filter(|number| declared >> (number - 1) & 1 == 1)
-        .collect()
+    numbers_in(size, declared).collect()
+}
+
+/// On either side of each of the rule's lines, the ends of the fields, or anything.
+pub fn random_small_engine(random: &mut Random) -> SmallEngine {
+    let short = |random: &mut Random, line: u16| match random.below(4) {
+        0 => random.pick(&[0, u16::MAX]),
+        1 => random.between(0, u16::MAX.into()) as u16,
+        _ => random.between((line - 2).into(), (line + 2).into()) as u16,
+    };
+    SmallEngine {
+        volume: short(random, 700),
+        speed: short(random, 3000),
+        date: random_day(random),
+    }
 }
 
 fn random_limit(random: &mut Random) -> u32 {

@@ -7,7 +7,9 @@
 
 pub mod attributes;
 pub mod bracket;
+pub mod calendar;
 pub mod cases;
+pub mod clauses;
 pub mod conversions;
 pub mod corpus;
 pub mod corrected;
@@ -23,5 +25,6 @@ pub mod promises;
 pub mod refusals;
 pub mod seen;
 pub mod service;
+pub mod small_engines;
 pub mod sweeps;
 pub mod tally;

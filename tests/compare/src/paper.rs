@@ -67,10 +67,13 @@ pub struct Sums {
 /// A report, with zeros behind one that is shorter.
 pub type Report = [u8; LONGEST_REPORT];
 
-/// A sheet, and the report that the paper asks for.
+/// What report returns, and the report; as lent where it returns a refusal.
+pub type Reported = (u32, Report);
+
+/// A sheet, and what has to be reported of it.
 pub struct Chosen {
     pub sheet: Vec<u8>,
-    pub report: Report,
+    pub reported: Reported,
 }
 
 impl Paper {
@@ -234,8 +237,10 @@ impl Single {
             let place = 2 + 2 * usize::from(number);
             report[place..place + 2].copy_from_slice(&[decision as u8, n as u8]);
         }
-        let sheet = self.bytes(size, number);
-        Chosen { sheet, report }
+        Chosen {
+            sheet: self.bytes(size, number),
+            reported: (0, report),
+        }
     }
 }
 

@@ -1,10 +1,15 @@
 //! "What each operation turns down": every way to each refusal, as damage done to an accepted
 //! sheet.
 
-use crate::draft::{random_draft, stop_record};
+use crate::calendar::random_day;
+use crate::draft::{random_draft, random_small_engine, stop_record, SmallEngine};
+use crate::draft::{ENGINE, PARTICULATES, POLLUTANT, SMALL_ENGINE, STOP};
 use random::Random;
 use second::{Document, Document01, PLANS};
 use std::ops::Range;
+
+/// The refusals that name a record, in the order in which they stand in one.
+pub const OF_RECORD: [u8; 14] = [2, 3, 16, 17, 18, 4, 5, 6, 7, 8, 9, 10, 11, 12];
 
 /// One way to a refusal. `spoil` tells whether the sheet had a place for it.
 pub struct Way {
@@ -21,10 +26,6 @@ pub struct Sheet {
     pub bytes: Vec<u8>,
 }
 
-const POLLUTANT: u8 = 1;
-const ENGINE: u8 = 2;
-const STOP: u8 = 3;
-
 const fn way(refusal: u8, name: &'static str, spoil: fn(&mut Sheet, &mut Random) -> bool) -> Way {
     Way {
         refusal,
@@ -33,7 +34,7 @@ const fn way(refusal: u8, name: &'static str, spoil: fn(&mut Sheet, &mut Random)
     }
 }
 
-pub const WAYS: [Way; 45] = [
+pub const WAYS: [Way; 72] = [
     way(1, "no bytes", |sheet, _| {
         sheet.bytes.clear();
         true
@@ -64,9 +65,12 @@ pub const WAYS: [Way; 45] = [
     way(2, "kind 0", |sheet, random| {
         sheet.set(random, any_kind, 0..1, |_| 0)
     }),
-    way(2, "kind 4 to 255", |sheet, random| {
+    way(2, "kind 4", |sheet, random| {
+        sheet.set(random, any_kind, 0..1, |_| 4)
+    }),
+    way(2, "kind 6 to 255", |sheet, random| {
         sheet.set(random, any_kind, 0..1, |random| {
-            random.between(4, 255) as u8
+            random.between(6, 255) as u8
         })
     }),
     way(3, "an engine first", |sheet, _| {
@@ -93,6 +97,126 @@ pub const WAYS: [Way; 45] = [
     way(3, "a stop after a stop", |sheet, _| {
         let stop = stop_record(sheet.size);
         sheet.has(STOP) && sheet.insert(sheet.bytes.len(), &stop)
+    }),
+    way(3, "a small engine first", |sheet, random| {
+        sheet.insert_small_engine(0, random)
+    }),
+    way(3, "a small engine after a stop", |sheet, random| {
+        sheet.has(STOP) && sheet.insert_small_engine(sheet.bytes.len(), random)
+    }),
+    way(3, "a pollutant after a small engine", |sheet, random| {
+        let pollutant = sheet.bytes[..sheet.size].to_vec();
+        sheet.gets_small_engine(random) && sheet.insert(sheet.end_of(SMALL_ENGINE), &pollutant)
+    }),
+    way(
+        16,
+        "a small engine after a small engine",
+        |sheet, random| {
+            sheet.gets_small_engine(random)
+                && sheet.insert_small_engine(sheet.end_of(SMALL_ENGINE), random)
+        },
+    ),
+    way(
+        16,
+        "a second small engine after an engine",
+        |sheet, random| {
+            sheet.has(ENGINE)
+                && sheet.gets_small_engine(random)
+                && sheet.insert_small_engine(sheet.end_of(ENGINE), random)
+        },
+    ),
+    way(
+        16,
+        "the only small engine after an engine",
+        |sheet, random| {
+            sheet.plan() != 4
+                && sheet.has(ENGINE)
+                && !sheet.has(SMALL_ENGINE)
+                && sheet.insert_small_engine(sheet.end_of(ENGINE), random)
+        },
+    ),
+    way(
+        16,
+        "a small engine after the pollutants in plan 4",
+        |sheet, random| {
+            sheet.plan() == 4 && sheet.insert_small_engine(sheet.end_of(POLLUTANT), random)
+        },
+    ),
+    way(
+        16,
+        "a small engine after a vehicle in plan 4",
+        |sheet, random| {
+            sheet.plan() == 4
+                && sheet.has(ENGINE)
+                && sheet.insert_small_engine(sheet.end_of(ENGINE), random)
+        },
+    ),
+    way(17, "day 0", |sheet, random| {
+        let date = random_day(random);
+        sheet.set_date(random, date - date % 100)
+    }),
+    way(17, "day 32 to 99", |sheet, random| {
+        let date = random_day(random);
+        let day = random.between(32, 99);
+        sheet.set_date(random, date - date % 100 + day)
+    }),
+    way(17, "31 of a month of 30 days", |sheet, random| {
+        let year = random.between(1, 9999);
+        let month = random.pick(&[4, 6, 9, 11]);
+        sheet.set_date(random, year * 10_000 + month * 100 + 31)
+    }),
+    way(17, "29 February of a common year", |sheet, random| {
+        let year = random.pick(&[1, 1700, 1800, 1900, 1997, 1998, 1999, 2100, 9900, 9999]);
+        sheet.set_date(random, year * 10_000 + 229)
+    }),
+    way(17, "30 February of a leap year", |sheet, random| {
+        let year = random.pick(&[4, 400, 1600, 1996, 2000, 2004, 9996]);
+        sheet.set_date(random, year * 10_000 + 230)
+    }),
+    way(17, "month 0", |sheet, random| {
+        let date = random_day(random);
+        sheet.set_date(random, date - date % 10_000 + date % 100)
+    }),
+    way(17, "month 13 to 99", |sheet, random| {
+        let date = random_day(random);
+        let month = random.between(13, 99);
+        sheet.set_date(random, date - date % 10_000 + month * 100 + date % 100)
+    }),
+    way(17, "year 0", |sheet, random| {
+        let date = random_day(random) % 10_000;
+        sheet.set_date(random, date)
+    }),
+    way(17, "year 10000 and later", |sheet, random| {
+        // 65,536 years later the year is the same in two bytes.
+        let later = random.pick(&[100_000_000, 655_360_000, 4_190_000_000]);
+        let date = later + random_day(random);
+        let date = random.pick(&[100_000_101, u32::MAX, date]);
+        sheet.set_date(random, date)
+    }),
+    way(18, "250 from 700 cm³ on", |sheet, random| {
+        let mut small_engine = random_small(random);
+        small_engine.volume = random.pick(&[700, 701, 1023, u16::MAX]);
+        sheet.set_rule(random, small_engine, 250)
+    }),
+    way(18, "250 up to 3000 per minute", |sheet, random| {
+        let mut small_engine = random_small(random);
+        small_engine.speed = random.pick(&[0, 2999, 3000]);
+        sheet.set_rule(random, small_engine, 250)
+    }),
+    way(18, "250 after 19980930", |sheet, random| {
+        let mut small_engine = random_small(random);
+        small_engine.date = random.pick(&[19_981_001, 19_990_101, 20_000_229, 99_991_231]);
+        sheet.set_rule(random, small_engine, 250)
+    }),
+    way(18, "150 where 250 is the rule's", |sheet, random| {
+        let small_engine = random_small(random);
+        sheet.set_rule(random, small_engine, 150)
+    }),
+    way(18, "a limit that is no rule's", |sheet, random| {
+        let small_engine = random_small_engine(random);
+        let rule = small_engine.particulate_limit();
+        let limit = random.pick(&[1, 9_999_999, rule - 1, rule + 1, rule + 256, rule + 65_536]);
+        sheet.set_rule(random, small_engine, limit)
     }),
     way(4, "pollutant 0", |sheet, random| {
         sheet.set(random, is_pollutant, 1..2, |_| 0)
@@ -223,6 +347,18 @@ pub const WAYS: [Way; 45] = [
     way(12, "byte 1 of an engine", |sheet, random| {
         sheet.set(random, is_engine, 1..2, not_zero)
     }),
+    way(12, "byte 1 of a small engine", |sheet, random| {
+        sheet.spoil_small_engine(random, 1..2)
+    }),
+    way(12, "bytes 6 and 7 of a small engine", |sheet, random| {
+        sheet.spoil_small_engine(random, 6..8)
+    }),
+    way(12, "bytes from 12 on of a small engine", |sheet, random| {
+        sheet.spoil_small_engine(random, 12..sheet.size)
+    }),
+    way(12, "the last byte of a small engine", |sheet, random| {
+        sheet.spoil_small_engine(random, sheet.size - 1..sheet.size)
+    }),
     way(12, "bytes 1 to 11 of a stop", |sheet, random| {
         sheet.set(random, is_stop, 1..12, not_zero)
     }),
@@ -250,6 +386,23 @@ fn is_engine(record: &[u8]) -> bool {
 
 fn is_stop(record: &[u8]) -> bool {
     record[0] == STOP
+}
+
+fn is_small_engine(record: &[u8]) -> bool {
+    record[0] == SMALL_ENGINE
+}
+
+fn is_particulates(record: &[u8]) -> bool {
+    is_pollutant(record) && record[1] == PARTICULATES
+}
+
+/// One with the limit 250.
+fn random_small(random: &mut Random) -> SmallEngine {
+    SmallEngine {
+        volume: random.pick(&[0, 255, 698, 699]),
+        speed: random.pick(&[3001, 3002, 4096, 32_768, u16::MAX]),
+        date: random.pick(&[10_101, 19_960_229, 19_980_101, 19_980_930]),
+    }
 }
 
 /// In an accepted sheet of plan 4, the vehicles with a cause.
@@ -304,6 +457,45 @@ impl Sheet {
     fn declares(&self, number: u8) -> bool {
         self.records()
             .any(|record| is_pollutant(record) && record[1] == number)
+    }
+
+    /// Puts in a small engine that is accepted, if there is none yet; plan 4 has no place for one.
+    fn gets_small_engine(&mut self, random: &mut Random) -> bool {
+        if self.plan() == 4 {
+            return false;
+        }
+        if !self.has(SMALL_ENGINE) {
+            let small_engine = random_small_engine(random);
+            let limit = small_engine.particulate_limit();
+            self.insert(self.end_of(POLLUTANT), &small_engine.record(self.size));
+            self.write(random, is_particulates, 4, &limit.to_le_bytes());
+        }
+        true
+    }
+
+    /// A record of kind 5 at any place.
+    fn insert_small_engine(&mut self, place: usize, random: &mut Random) -> bool {
+        let record = random_small_engine(random).record(self.size);
+        self.insert(place, &record)
+    }
+
+    /// One byte of the range that is not zero, in a record of kind 5.
+    fn spoil_small_engine(&mut self, random: &mut Random, range: Range<usize>) -> bool {
+        self.gets_small_engine(random) && self.set(random, is_small_engine, range, not_zero)
+    }
+
+    fn set_date(&mut self, random: &mut Random, date: u32) -> bool {
+        let date = date.to_le_bytes();
+        self.gets_small_engine(random) && self.write(random, is_small_engine, 8, &date)
+    }
+
+    /// The small engine, and the limit of particulates, which have to be declared.
+    fn set_rule(&mut self, random: &mut Random, small_engine: SmallEngine, limit: u32) -> bool {
+        let record = small_engine.record(self.size);
+        self.declares(PARTICULATES)
+            && self.gets_small_engine(random)
+            && self.write(random, is_small_engine, 0, &record)
+            && self.write(random, is_particulates, 4, &limit.to_le_bytes())
     }
 
     fn has(&self, kind: u8) -> bool {
@@ -397,19 +589,25 @@ impl Sheet {
 }
 
 /// Every byte without a field, not zero in one bit, on a sheet that has no other fault: of a
-/// pollutant, of an engine and of a stop. Each sheet comes with the record that has the byte.
+/// pollutant, of a small engine, of an engine and of a stop. Each sheet comes with the record that
+/// has the byte.
 pub fn unused_bytes(size: usize, random: &mut Random) -> Vec<(usize, Vec<u8>)> {
     let sheet = loop {
         let draft = random_draft(size, random);
-        if draft.plan != 4 && draft.stopped && draft.engines.len() == 1 {
+        let whole = draft.small_engine.is_some() && draft.engines.len() == 1 && draft.stopped;
+        if draft.plan != 4 && whole {
             break draft.bytes();
         }
     };
     let stop = sheet.len() / size - 1;
+    let (engine, small_engine) = (stop - 1, stop - 2);
     let of_pollutant = [3].into_iter().chain(12..size).map(|byte| (0, byte));
+    let of_small_engine = [1, 6, 7].into_iter().chain(12..size);
+    let of_small_engine = of_small_engine.map(|byte| (small_engine, byte));
     let of_stop = (1..size).map(|byte| (stop, byte));
+    let of_others = of_pollutant.chain(of_small_engine).chain(of_stop);
     let mut sheets = Vec::new();
-    for (record, byte) in of_pollutant.chain([(stop - 1, 1)]).chain(of_stop) {
+    for (record, byte) in of_others.chain([(engine, 1)]) {
         for bit in 0..8 {
             let mut sheet = sheet.clone();
             sheet[record * size + byte] = 1 << bit;

@@ -1,12 +1,15 @@
 //! What the compared answers showed in records of one size: every refusal, every verdict with its
 //! ground under every plan that can end so, every pollutant passed and failed and the only one by
-//! which a vehicle is a gross emitter, the longest sheets; and a pair in every cell of the table of
-//! lines. What was never seen was never compared.
+//! which a vehicle is a gross emitter, small engines by each clause of F-1, the longest sheets; and a
+//! pair in every cell of the table of lines. What was never seen was never compared.
 
 use crate::cases::{Answer, Case};
+use crate::clauses::{has_small_engine, last_days, Accepted, Clause, Refused, CLAUSES};
 use crate::corpus::{LineSeries, EXACT_IN_CELL};
+use crate::draft::plans_of_small_engines;
 use crate::exact::{has_series_on_line, Stand};
 use crate::paper::{Cell, Line};
+use crate::refusals::OF_RECORD;
 use crate::tally::{Kinds, Tally};
 use second::{check, Document, Document01, Series, PLANS, UNKNOWN_DEVIATION};
 use std::fmt;
@@ -34,10 +37,30 @@ fn can_end(plan: u8, ground: u8) -> bool {
 #[derive(Clone, Copy, PartialEq, Eq, PartialOrd, Ord)]
 enum Kind {
     Refusal(u8),
-    Ending { plan: u8, verdict: u8, ground: u8 },
-    Decision { pollutant: usize, decision: u8 },
-    GrossEmitterBy { pollutant: usize },
+    Ending {
+        plan: u8,
+        verdict: u8,
+        ground: u8,
+    },
+    Decision {
+        pollutant: usize,
+        decision: u8,
+    },
+    GrossEmitterBy {
+        pollutant: usize,
+    },
+    /// With the limit of particulates, if they are declared.
+    SmallEngine {
+        plan: u8,
+        limit: Option<u32>,
+    },
+    /// Month and day.
+    LastDay([u32; 2]),
+    DayAfterLast([u32; 2]),
+    RefusedBy(Clause),
     Records(usize),
+    /// Of so many without a small engine: not the length.
+    RefusedRecord(usize),
     TooManyRecords(usize),
 }
 
@@ -65,7 +88,25 @@ impl fmt::Display for Kind {
             Kind::GrossEmitterBy { pollutant } => {
                 write!(formatter, "gross emitter by pollutant {pollutant} alone")
             }
+            Kind::SmallEngine { plan, limit } => {
+                write!(formatter, "plan {plan}, small engine, ")?;
+                match limit {
+                    Some(limit) => write!(formatter, "particulates with {limit}"),
+                    None => write!(formatter, "no particulates"),
+                }
+            }
+            Kind::LastDay([month, day]) => write!(formatter, "month {month} with day {day}"),
+            Kind::DayAfterLast([month, day]) => {
+                write!(formatter, "refusal 17 for day {day} of month {month}")
+            }
+            Kind::RefusedBy((number, clause)) => write!(formatter, "refusal {number:2}, {clause}"),
             Kind::Records(records) => write!(formatter, "accepted with {records} records"),
+            Kind::RefusedRecord(records) => {
+                write!(
+                    formatter,
+                    "a record refused of {records} without a small engine"
+                )
+            }
             Kind::TooManyRecords(records) => write!(formatter, "refused for {records} records"),
         }
     }
@@ -73,7 +114,7 @@ impl fmt::Display for Kind {
 
 /// What has to be seen in records of this size.
 fn demanded(size: usize) -> Vec<Kind> {
-    let mut kinds: Vec<Kind> = (1..=15).map(Kind::Refusal).collect();
+    let mut kinds: Vec<Kind> = (1..=18).map(Kind::Refusal).collect();
     for plan in 1..=PLANS {
         let endings = ENDINGS.into_iter();
         let endings = endings.filter(|ending| can_end(plan, ending.1));
@@ -90,8 +131,16 @@ fn demanded(size: usize) -> Vec<Kind> {
         }));
         kinds.push(Kind::GrossEmitterBy { pollutant });
     }
+    for plan in plans_of_small_engines() {
+        let limits = [None, Some(150), Some(250)];
+        kinds.extend(limits.map(|limit| Kind::SmallEngine { plan, limit }));
+    }
+    kinds.extend(last_days().map(Kind::LastDay));
+    kinds.extend(last_days().map(|[month, day]| Kind::DayAfterLast([month, day + 1])));
+    kinds.extend(CLAUSES.map(Kind::RefusedBy));
     let most = Document01.most_records(size);
     kinds.extend([most - 1, most].map(Kind::Records));
+    kinds.push(Kind::RefusedRecord(most));
     kinds.push(Kind::TooManyRecords(most + 1));
     kinds
 }
@@ -101,18 +150,37 @@ pub struct Seen(Kinds<Kind>);
 
 impl Seen {
     pub fn note(&mut self, case: &Case, answer: &Answer) {
-        let number = (answer.code / 256) as u8;
+        let (number, at) = ((answer.code / 256) as u8, answer.code as usize % 256);
         if number > 0 {
             self.0.count(Kind::Refusal(number));
         }
-        if let Case::Report { size, sheet, .. } = case {
+        if let Case::Report { size, sheet, .. } = *case {
             match number {
-                0 => self.note_report(*size, sheet, &answer.bytes),
-                1 if sheet.len().is_multiple_of(*size) => {
+                0 => self.note_report(size, sheet, &answer.bytes),
+                1 if sheet.len().is_multiple_of(size) => {
                     self.0.count(Kind::TooManyRecords(sheet.len() / size));
                 }
+                _ if OF_RECORD.contains(&number) => self.note_refused(&Refused {
+                    size,
+                    sheet,
+                    number,
+                    at,
+                }),
                 _ => {}
             }
+        }
+    }
+
+    fn note_refused(&mut self, refused: &Refused) {
+        let &Refused { size, sheet, .. } = refused;
+        if let Some(clause) = refused.clause() {
+            self.0.count(Kind::RefusedBy(clause));
+        }
+        if let Some(day) = refused.day_after_last() {
+            self.0.count(Kind::DayAfterLast(day));
+        }
+        if !has_small_engine(size, sheet) {
+            self.0.count(Kind::RefusedRecord(sheet.len() / size));
         }
     }
 
@@ -130,14 +198,25 @@ impl Seen {
             });
         }
         self.0.count(Kind::Records(sheet.len() / size));
+        if let Some(small_engine) = Accepted::new(size, sheet) {
+            self.note_small_engine(&small_engine);
+        }
         if sheet[2] == 4 {
             let series = check(&Document01, size, sheet).expect("an accepted sheet");
             self.note_gross_emitters(&series);
         }
     }
 
+    fn note_small_engine(&mut self, small_engine: &Accepted) {
+        let &Accepted { plan, limit, .. } = small_engine;
+        self.0.count(Kind::SmallEngine { plan, limit });
+        if let Some(day) = small_engine.last_day {
+            self.0.count(Kind::LastDay(day));
+        }
+    }
+
     fn note_gross_emitters(&mut self, series: &Series) {
-        for engine in series.engines() {
+        for engine in series.engines(&Document01) {
             let over = |&place: &usize| {
                 Document01.is_gross(Document01.measurement(engine, place), series.limits[place])
             };

@@ -77,11 +77,11 @@ fn trial(size: usize, pollutants: &[OnLine]) -> LogarithmTrial {
         sheets: [
             Chosen {
                 sheet: sheet(size, pollutants, |pollutant| pollutant.deciding),
-                report: decided_at_3(decisions),
+                reported: (0, decided_at_3(decisions)),
             },
             Chosen {
                 sheet: sheet(size, pollutants, |pollutant| pollutant.beyond),
-                report: ANOTHER_AT_3,
+                reported: (0, ANOTHER_AT_3),
             },
         ],
     }
@@ -260,6 +260,8 @@ fn vehicles(size: usize, causes: [u16; 2], report: Report) -> Chosen {
     }
     draft.test(measured(900), 0);
     draft.engines.swap(usize::from(causes[0]) % 3, 2);
-    let sheet = draft.bytes();
-    Chosen { sheet, report }
+    Chosen {
+        sheet: draft.bytes(),
+        reported: (0, report),
+    }
 }

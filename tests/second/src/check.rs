@@ -18,6 +18,8 @@ pub type Record = [u8];
 pub(crate) const POLLUTANT: u8 = 1;
 pub(crate) const ENGINE: u8 = 2;
 pub(crate) const STOP: u8 = 3;
+/// "Record kind 5" (F-1).
+pub(crate) const SMALL_ENGINE: u8 = 5;
 
 /// "It returns number and record counted from 0".
 #[derive(Clone, Copy, Debug, PartialEq, Eq)]
@@ -47,8 +49,10 @@ pub struct Series<'a> {
     pub limits: [u32; MOST_POLLUTANTS],
     pub deviations: [u32; MOST_POLLUTANTS],
     pub highest_pollutant: u8,
-    /// How many pollutant records open the sheet, and how many engines follow them.
+    /// How many pollutant records open the sheet; how many small engines, of which one is allowed,
+    /// and how many engines follow them.
     pub declared: usize,
+    pub small_engines: usize,
     pub tested: usize,
     pub stopped: bool,
     pub(crate) sheet: &'a [u8],
@@ -63,6 +67,7 @@ impl<'a> Series<'a> {
             deviations: [0; MOST_POLLUTANTS],
             highest_pollutant: 0,
             declared: 0,
+            small_engines: 0,
             tested: 0,
             stopped: false,
             sheet,
@@ -73,12 +78,22 @@ impl<'a> Series<'a> {
         self.sheet.chunks_exact(self.size)
     }
 
-    /// The engine records, which follow the pollutants without a gap.
-    pub fn engines(&self) -> impl Iterator<Item = &'a Record> {
-        self.records().skip(self.declared).take(self.tested)
+    /// The records that the document takes for engines.
+    pub fn engines<'d, D: Document + ?Sized>(
+        &self,
+        document: &'d D,
+    ) -> impl Iterator<Item = &'a Record> + use<'a, 'd, D> {
+        self.records()
+            .filter(|record| document.is_engine(record[0]))
+    }
+
+    /// Whether there is a record of another kind than 1.
+    pub(crate) fn has_other_kinds(&self) -> bool {
+        self.small_engines > 0 || self.tested > 0 || self.stopped
     }
 
     fn take<D: Document + ?Sized>(&mut self, document: &D, record: &Record) {
+        self.tested += usize::from(document.is_engine(record[0]));
         match record[0] {
             POLLUTANT => {
                 let index = usize::from(record[1]) - 1;
@@ -88,10 +103,16 @@ impl<'a> Series<'a> {
                 self.highest_pollutant = record[1];
                 self.declared += 1;
             }
-            ENGINE => self.tested += 1,
+            SMALL_ENGINE => self.small_engines += 1,
+            ENGINE => {}
             _ => self.stopped = true,
         }
     }
+}
+
+/// A number of two bytes.
+pub(crate) fn short_at(record: &Record, place: usize) -> u16 {
+    u16::from_le_bytes([record[place], record[place + 1]])
 }
 
 /// A number of four bytes; 0 behind the record's end.
@@ -108,14 +129,13 @@ pub fn check<'a, D: Document + ?Sized>(
     size: usize,
     sheet: &'a [u8],
 ) -> Result<Series<'a>, Refusal> {
-    if let Some(number) = document.sheet_fault(size, sheet.len()) {
+    if let Some(number) = document.sheet_fault(size, sheet) {
         return Err(document.refusal_of_no_record(number));
     }
     let mut series = Series::of_no_record(size, sheet);
     for (index, record) in series.records().enumerate() {
         if let Some(number) = document.fault(record, &series) {
-            let record = index as u8;
-            return Err(Refusal { number, record });
+            return Err(document.refusal_of_record(number, index));
         }
         series.take(document, record);
     }

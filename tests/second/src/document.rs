@@ -4,9 +4,9 @@
 //! the sentences together and hold for any document. A `size` is that of a record, in bytes:
 //! "Callers name the size" (F-10).
 
-use crate::check::{
-    number_at, Record, Refusal, Series, ENGINE, FOUR_POLLUTANTS, POLLUTANT, SIX_POLLUTANTS, SIZES,
-};
+use crate::check::{number_at, short_at, Record, Refusal, Series};
+use crate::check::{ENGINE, POLLUTANT, SMALL_ENGINE, STOP};
+use crate::check::{FOUR_POLLUTANTS, SIX_POLLUTANTS, SIZES};
 use crate::declared::{total, Approval};
 use crate::judge::{Decision, Ending, GrossEmitters, Ground, Judgement, Row, Verdict};
 use crate::operations::LONGEST_REPORT;
@@ -21,6 +21,10 @@ impl Document for Document01 {}
 /// "Limits and measurements are whole thousandths of the limit's unit, 1 to 9,999,999", and the
 /// values of F-4 "whole thousandths of g/km, 1 to 9,999,999".
 const LARGEST: u32 = 9_999_999;
+
+/// "Pollutant number 1 to 4 (carbon monoxide, hydrocarbons, nitrogen oxides, particulates)", counted
+/// from 0.
+pub(crate) const PARTICULATES: usize = 3;
 
 /// How many plans there are: document 01's four, and the corrected sheet of F-6, which "becomes
 /// plan 5".
@@ -85,16 +89,16 @@ pub trait Document {
 
     // ---- The sheet
 
-    /// "Records of 20 bytes, no header; at most 37"; and of F-10: "A sheet of the new size holds
-    /// two records more than the old maximum".
+    /// "Records of 20 bytes, no header"; of F-1: "A sheet may hold 38 records"; and of F-10: "A
+    /// sheet of the new size holds two records more than the old maximum".
     fn most_records(&self, size: usize) -> usize {
         match size {
-            SIX_POLLUTANTS => 37 + 2,
-            _ => 37,
+            SIX_POLLUTANTS => 38 + 2,
+            _ => 38,
         }
     }
 
-    /// "Over 740 bytes" is more than 37 records of 20.
+    /// In bytes: 760, and 1,120 of the new size.
     fn longest_sheet(&self, size: usize) -> usize {
         self.most_records(size) * size
     }
@@ -131,7 +135,7 @@ pub trait Document {
 
     /// Kind 2: "bytes 2-3 cause".
     fn cause(&self, record: &Record) -> u16 {
-        u16::from_le_bytes([record[2], record[3]])
+        short_at(record, 2)
     }
 
     /// Kind 2: "bytes 4-19 four u32 measurements, pollutant 1 first"; and of F-10: "the new ones
@@ -143,6 +147,26 @@ pub trait Document {
     /// Kind 3: "bytes 1-19 zero"; and of F-10: "with the new ones zero", to byte 27.
     fn stop_rest_is_zero(&self, record: &Record) -> bool {
         all_zero(&record[1..])
+    }
+
+    /// Kind 5 (F-1): "bytes 2-3 swept volume per cylinder in cm³", any number.
+    fn volume(&self, record: &Record) -> u16 {
+        short_at(record, 2)
+    }
+
+    /// Kind 5 (F-1): "bytes 4-5 rated speed per minute", any number.
+    fn speed(&self, record: &Record) -> u16 {
+        short_at(record, 4)
+    }
+
+    /// Kind 5 (F-1): "bytes 8-11 test date as year x 10000 + month x 100 + day".
+    fn date(&self, record: &Record) -> u32 {
+        number_at(record, 8)
+    }
+
+    /// Kind 5 (F-1): "the others zero under refusal 12", to byte 19 or 27.
+    fn small_engine_rest_is_zero(&self, record: &Record) -> bool {
+        record[1] == 0 && all_zero(&record[6..8]) && all_zero(&record[12..])
     }
 
     /// Limits are "1 to 9,999,999".
@@ -201,6 +225,65 @@ pub trait Document {
             return None;
         }
         sheet.chunks_exact(size).nth(number).map(Cow::Borrowed)
+    }
+
+    // ---- The small engine (document 02, F-1)
+
+    /// "17, date not in the Gregorian calendar of years 1 to 9999"; the calendar is taken back to
+    /// year 1.
+    fn date_fits(&self, date: u32) -> bool {
+        let (year, month, day) = (date / 10_000, date / 100 % 100, date % 100);
+        let days = 1..=self.days_in(year, month);
+        self.year_fits(year) && self.month_fits(month) && days.contains(&day)
+    }
+
+    /// "Of years 1 to 9999".
+    fn year_fits(&self, year: u32) -> bool {
+        (1..=9999).contains(&year)
+    }
+
+    /// Of twelve months.
+    fn month_fits(&self, month: u32) -> bool {
+        (1..=12).contains(&month)
+    }
+
+    /// How many days a month of the calendar has.
+    fn days_in(&self, year: u32, month: u32) -> u32 {
+        match month {
+            2 if self.is_leap_year(year) => 29,
+            2 => 28,
+            4 | 6 | 9 | 11 => 30,
+            _ => 31,
+        }
+    }
+
+    /// In the Gregorian calendar every fourth year is one, but of the hundredth years only every
+    /// fourth.
+    fn is_leap_year(&self, year: u32) -> bool {
+        let by = |years| year.is_multiple_of(years);
+        by(400) || by(4) && !by(100)
+    }
+
+    /// "The particulate limit of production is 250 through 19980930 and 150 after [..]; every other
+    /// engine has 150."
+    fn particulate_limit(&self, record: &Record) -> u32 {
+        let small = self.is_small(self.volume(record), self.speed(record));
+        if small && self.is_in_time(self.date(record)) {
+            250
+        } else {
+            150
+        }
+    }
+
+    /// "Under 700 cm³ and above 3000 per minute"; document 001, 8.1.1.1.1: "a swept volume of less
+    /// than 0,7 dm³ and a rated power speed of more than 3 000 min⁻¹".
+    fn is_small(&self, volume: u16, speed: u16) -> bool {
+        volume < 700 && speed > 3000
+    }
+
+    /// "Through 19980930"; document 001, 8.1.1.1.1: "until 30 September 1998".
+    fn is_in_time(&self, date: u32) -> bool {
+        date <= 19_980_930
     }
 
     // ---- Plans
@@ -362,6 +445,11 @@ pub trait Document {
 
     // ---- The series
 
+    /// "Its engines are its records of kind 2."
+    fn is_engine(&self, kind: u8) -> bool {
+        kind == ENGINE
+    }
+
     /// "All passed: pass", of the declared pollutants, which have a limit. Pollutants count from 0
     /// here.
     fn is_judged(&self, _pollutant: usize, limit: u32) -> bool {
@@ -401,6 +489,12 @@ pub trait Document {
     }
 
     // ---- Other operations
+
+    /// "Through the deciding engine's record": the pollutants, the small engine if there is one
+    /// (F-1), and the engines up to that one, in records.
+    fn records_through(&self, engine: u8, series: &Series) -> usize {
+        series.declared + series.small_engines + usize::from(engine)
+    }
 
     /// "Evidence hands back the part of the sheet from its start through the deciding engine's
     /// record; the whole sheet where undecided, stopped or referred", in records.
@@ -452,24 +546,32 @@ pub trait Document {
         Refusal::of_no_record(number)
     }
 
+    /// "It returns number and record counted from 0"; of F-1 too: "18, at the kind 5 record".
+    fn refusal_of_record(&self, number: u8, record: usize) -> Refusal {
+        let record = record as u8;
+        Refusal { number, record }
+    }
+
     /// "Judge: 1, [..]. Then the first faulty record"; and of F-10: "30, [..] before every other".
-    fn sheet_fault(&self, size: usize, length: usize) -> Option<u8> {
+    fn sheet_fault(&self, size: usize, sheet: &[u8]) -> Option<u8> {
         if !self.size_fits(size) {
             Some(30)
-        } else if !self.length_fits(size, length) {
+        } else if !self.length_fits(size, sheet.len()) {
             Some(1)
         } else {
             None
         }
     }
 
-    /// "1, no bytes, a length not a multiple of 20, or over 740 bytes"; and of F-10: "the checks of
-    /// a sheet, by its size".
+    /// "1, no bytes, a length not a multiple of 20, or over" 760 "bytes": F-1's 38 records; and of
+    /// F-10: "the checks of a sheet, by its size".
     fn length_fits(&self, size: usize, length: usize) -> bool {
         length != 0 && length.is_multiple_of(size) && length <= self.longest_sheet(size)
     }
 
-    /// "The first faulty record, and in it the lowest of": 2, 3, and what its kind can have.
+    /// "The first faulty record, and in it the" first "of": 2, 3, and what its kind can have. With
+    /// F-1, whose 16 is "after 3; 17 [..] after 16; 18 [..] after 17", they stand in the order 2, 3,
+    /// 16, 17, 18, 4 to 12.
     fn fault(&self, record: &Record, so_far: &Series) -> Option<u8> {
         if !self.kind_fits(record[0]) {
             Some(2)
@@ -479,20 +581,59 @@ pub trait Document {
             match record[0] {
                 POLLUTANT => self.pollutant_fault(record, so_far),
                 ENGINE => self.engine_fault(record, so_far),
+                SMALL_ENGINE => self.small_engine_fault(record, so_far),
                 _ => self.stop_fault(record, so_far),
             }
         }
     }
 
-    /// "2, kind not 1 to 3".
+    /// "2, kind not 1 to 3"; and of F-1: "Add record kind 5".
     fn kind_fits(&self, kind: u8) -> bool {
-        (1..=3).contains(&kind)
+        [POLLUTANT, ENGINE, STOP, SMALL_ENGINE].contains(&kind)
     }
 
     /// "3, first record not kind 1, kind 1 after another kind, or anything after kind 3".
     fn is_misplaced(&self, kind: u8, so_far: &Series) -> bool {
         let first = so_far.declared == 0;
-        first && kind != POLLUTANT || kind == POLLUTANT && so_far.tested > 0 || so_far.stopped
+        let late = kind == POLLUTANT && so_far.has_other_kinds();
+        first && kind != POLLUTANT || late || so_far.stopped
+    }
+
+    /// F-1: "16, [..], after 3; 17, [..], after 16; 18, [..], after 17", and 12 behind them.
+    fn small_engine_fault(&self, record: &Record, so_far: &Series) -> Option<u8> {
+        if !self.small_engine_place_fits(so_far) {
+            Some(16)
+        } else if !self.date_fits(self.date(record)) {
+            Some(17)
+        } else if !self.particulate_limit_fits(record, so_far) {
+            Some(18)
+        } else if !self.small_engine_rest_is_zero(record) {
+            Some(12)
+        } else {
+            None
+        }
+    }
+
+    /// "16, a second kind 5, one elsewhere or in plan 4".
+    fn small_engine_place_fits(&self, so_far: &Series) -> bool {
+        self.follows_pollutants(so_far) && self.has_small_engine(so_far.plan)
+    }
+
+    /// "Allowed once, straight after the pollutant records".
+    fn follows_pollutants(&self, so_far: &Series) -> bool {
+        !so_far.has_other_kinds()
+    }
+
+    /// Not "in plan 4".
+    fn has_small_engine(&self, plan: u8) -> bool {
+        plan != 4
+    }
+
+    /// "18, at the kind 5 record, a declared particulate limit not the rule's": without pollutant 4
+    /// nothing is asked.
+    fn particulate_limit_fits(&self, record: &Record, so_far: &Series) -> bool {
+        let limit = so_far.limits[PARTICULATES];
+        limit == 0 || limit == self.particulate_limit(record)
     }
 
     /// The lowest of "4 [..]; 5 [..]; 6, limit out of range; 7, deviation; [..] 12, another byte
@@ -618,9 +759,20 @@ pub trait Document {
         used != 0
     }
 
+    /// "1 to 12 for the sheet there"; and of F-1: "Here and later, a sheet's new refusals stand with
+    /// 1 to 12 in append."
+    fn refusal_of_sheet_there(&self, refusal: Option<Refusal>) -> Option<Refusal> {
+        refusal
+    }
+
+    /// "1 to 12 for the joined sheet", and F-1's with them.
+    fn refusal_of_joined_sheet(&self, refusal: Option<Refusal>) -> Option<Refusal> {
+        refusal
+    }
+
     /// "On success only the 20 bytes at u change", and on a refusal none.
-    fn stays_written(&self, refused: bool) -> bool {
-        !refused
+    fn stays_written(&self, refusal: Option<Refusal>) -> bool {
+        refusal.is_none()
     }
 
     /// "Report: 15, output under 20 bytes, record 0; then as judge."

@@ -94,7 +94,7 @@ pub fn judge<D: Document + ?Sized>(
 pub(crate) fn walk<D: Document + ?Sized>(document: &D, series: &Series) -> Judgement {
     let mut standings = open_standings(document, series);
     let mut gross = GrossEmitters::none();
-    for (n, engine) in (1..).zip(series.engines()) {
+    for (n, engine) in (1..).zip(series.engines(document)) {
         for (pollutant, standing) in standings.iter_mut().enumerate() {
             if let Some(standing) = standing {
                 standing.add(

@@ -7,7 +7,8 @@ use crate::judge::{judge, walk, Decision, Verdict};
 /// "Report writes 20 bytes", and F-10's "report is 28 bytes".
 pub const LONGEST_REPORT: usize = 28;
 
-/// "Evidence hands back the part of the sheet from its start".
+/// "Evidence hands back the part of the sheet from its start". A reading that goes past the sheet's
+/// end gets the whole sheet.
 pub fn evidence<'a, D: Document + ?Sized>(
     document: &D,
     size: usize,
@@ -16,10 +17,11 @@ pub fn evidence<'a, D: Document + ?Sized>(
     let checked = check(document, size, sheet);
     let series = checked.map_err(|refusal| document.evidence_refusal(refusal))?;
     let judgement = walk(document, &series);
-    let through_engine = series.declared + usize::from(judgement.engine);
+    let through_engine = document.records_through(judgement.engine, &series);
     let whole = sheet.len() / size;
     let records = document.evidence_records(judgement.ground, through_engine, whole);
-    Ok(&sheet[..document.evidence_length(size, records)])
+    let length = document.evidence_length(size, records).min(sheet.len());
+    Ok(&sheet[..length])
 }
 
 /// "Append adds a record to the sheet in the first u bytes of a lent buffer", here `used`.
@@ -35,7 +37,10 @@ pub fn append<D: Document + ?Sized>(
         return Err(document.refusal_of_no_record(number));
     }
     if document.checks_sheet_there(used) {
-        check(document, size, &buffer[..used])?;
+        let there = check(document, size, &buffer[..used]).err();
+        if let Some(refusal) = document.refusal_of_sheet_there(there) {
+            return Err(refusal);
+        }
     }
     let end = buffer.len().min(used + record.len());
     append_to_checked(document, size, &mut buffer[..end], used, record)
@@ -54,11 +59,11 @@ fn append_to_checked<D: Document + ?Sized>(
     let mut before = [0; SIX_POLLUTANTS];
     before[..added].copy_from_slice(&joined[used..]);
     joined[used..].copy_from_slice(&record[..added]);
-    let checked = check(document, size, joined).map(|_| ());
-    if !document.stays_written(checked.is_err()) {
+    let refusal = document.refusal_of_joined_sheet(check(document, size, joined).err());
+    if !document.stays_written(refusal) {
         joined[used..].copy_from_slice(&before[..added]);
     }
-    checked
+    refusal.map_or(Ok(()), Err)
 }
 
 /// "Report writes 20 bytes", or 28. "Bytes past" them "stay".

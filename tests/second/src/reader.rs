@@ -1,6 +1,6 @@
 //! "A sheet under reading is the lent bytes and the number of the next record."
 
-use crate::check::{Record, ENGINE, MOST_POLLUTANTS, POLLUTANT, STOP};
+use crate::check::{Record, ENGINE, MOST_POLLUTANTS, POLLUTANT, SMALL_ENGINE, STOP};
 use crate::document::Document;
 use std::borrow::Cow;
 
@@ -27,6 +27,11 @@ pub enum Step {
         measurements: [u32; MOST_POLLUTANTS],
     },
     Stop,
+    SmallEngine {
+        volume: u16,
+        speed: u16,
+        date: u32,
+    },
     Other {
         kind: u8,
     },
@@ -70,6 +75,7 @@ impl<'a, D: Document + ?Sized> Reader<'a, D> {
 
     fn step_of(&self, record: &Record) -> Step {
         match record[0] {
+            kind if !self.document.kind_fits(kind) => Step::Other { kind },
             POLLUTANT => Step::Pollutant {
                 number: record[1],
                 plan: record[2],
@@ -81,6 +87,11 @@ impl<'a, D: Document + ?Sized> Reader<'a, D> {
                 measurements: std::array::from_fn(|p| self.document.measurement(record, p)),
             },
             STOP => Step::Stop,
+            SMALL_ENGINE => Step::SmallEngine {
+                volume: self.document.volume(record),
+                speed: self.document.speed(record),
+                date: self.document.date(record),
+            },
             kind => Step::Other { kind },
         }
     }

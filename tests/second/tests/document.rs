@@ -4,14 +4,11 @@
 
 mod records;
 
-use records::{engine, pollutant, stop};
+use records::{engine, judged, pollutant, stop, Sheets};
 use second::variants::SixteenSteps;
 use second::{append, evidence, judge, lines};
-use second::{Column, Decision, Document, Document01, Ground, Judgement, Refusal, Verdict};
+use second::{Column, Decision, Document, Document01, Ground, Refusal, Verdict};
 use second::{FOUR_POLLUTANTS, SIZES};
-
-/// One sheet in records of each size.
-type Sheets = [Vec<u8>; 2];
 
 /// A sheet of pollutant 1 alone; a vehicle is a cause and a measurement.
 fn sheet(plan: u8, limit: u32, deviation: u32, vehicles: &[(u16, u32)]) -> Sheets {
@@ -28,13 +25,6 @@ fn stopped(sheets: Sheets) -> Sheets {
     let [four, six] = sheets;
     let [stop_of_four, stop_of_six] = SIZES.map(stop);
     [[four, stop_of_four].concat(), [six, stop_of_six].concat()]
-}
-
-/// The answer to both sheets.
-fn judged(document: &impl Document, sheets: &Sheets) -> Result<Judgement, Refusal> {
-    let [four, six] = [0, 1].map(|place| judge(document, SIZES[place], &sheets[place]));
-    assert_eq!(four, six);
-    four
 }
 
 fn verdict(sheets: &Sheets) -> (Verdict, u8, Ground) {

@@ -3,20 +3,13 @@
 
 mod records;
 
-use records::{engine, pollutant, stop};
-use second::{append, check, convert, evidence, judge, report};
+use records::{engine, fullest, pollutant, refused, stop, UNWRITTEN};
+use second::{append, convert, evidence, judge, report};
 use second::{Decision, Document, Document01, Ground, Judgement, Refusal, Verdict};
 use second::{FOUR_POLLUTANTS, SIX_POLLUTANTS, SIZES};
 
-/// What memory holds before a call.
-const UNWRITTEN: u8 = 0xA5;
-
 /// Sizes that are none.
 const NO_SIZES: [usize; 9] = [0, 1, 19, 21, 24, 27, 29, (1 << 32) + 20, usize::MAX];
-
-fn refused<T>(number: u8, record: u8) -> Result<T, Refusal> {
-    Err(Refusal { number, record })
-}
 
 /// Pollutants 1 and 6 under plan 3, limits 100 and 50, and four engines at 90 and 50.
 fn six_pollutants() -> Vec<u8> {
@@ -179,31 +172,16 @@ fn gross_emitters() {
     }
 }
 
-/// The fullest sheet of plan 1 with these pollutants: 32 engines and a stop.
-fn fullest(size: usize, numbers: &[u8]) -> Vec<u8> {
-    let measured: Vec<(usize, u32)> = numbers.iter().map(|&n| (n.into(), 100)).collect();
-    let mut sheet = Vec::new();
-    for &number in numbers {
-        sheet.extend(pollutant(size, number, 1, 100, 4_000_000));
-    }
-    sheet.extend(engine(size, 0, &measured).repeat(32));
-    sheet.extend(stop(size));
-    sheet
-}
-
-/// "A sheet of the new size holds two records more than the old maximum".
+/// "A sheet of the new size holds two records more than the old maximum", which with F-1 is 38.
 #[test]
 fn most_records() {
     let four = fullest(20, &[1, 2, 3, 4]);
     let six = fullest(28, &[1, 2, 3, 4, 5, 6]);
-    assert_eq!((four.len(), six.len()), (740, 1092));
+    assert_eq!((four.len(), six.len()), (38 * 20, 40 * 28));
     for (size, mut sheet) in SIZES.into_iter().zip([four, six]) {
-        assert!(check(&Document01, size, &sheet).is_ok());
+        assert!(judge(&Document01, size, &sheet).is_ok());
         sheet.extend(stop(size));
-        assert_eq!(
-            check(&Document01, size, &sheet).err(),
-            refused::<()>(1, 0).err()
-        );
+        assert_eq!(judge(&Document01, size, &sheet), refused(1, 0));
     }
 }
 
@@ -213,17 +191,18 @@ fn most_records() {
 fn most_records_of_four_pollutants() {
     let sheet = fullest(28, &[1, 2, 3, 4]);
     assert_eq!(sheet.len() / 28, Document01.most_records(20));
-    assert!(check(&Document01, 28, &sheet).is_ok());
-    let mut records: Vec<Vec<u8>> = (0..=255).map(|n| pollutant(28, n, 1, 100, 1)).collect();
-    records.extend([sheet[4 * 28..5 * 28].to_vec(), stop(28)]);
+    assert!(judge(&Document01, 28, &sheet).is_ok());
+    let [small_engine, engine, stop] = [4, 5, 37].map(|at| sheet[28 * at..][..28].to_vec());
+    let mut records: Vec<Vec<u8>> = (0..=255).map(|n| pollutant(28, n, 1, 150, 1)).collect();
+    records.extend([small_engine, engine, stop]);
     for record in records {
-        for at in 0..=37 {
+        for at in 0..=38 {
             let (before, behind) = sheet.split_at(at * 28);
             let longer = [before, &record, behind].concat();
-            assert!(check(&Document01, 28, &longer).is_err());
+            assert!(judge(&Document01, 28, &longer).is_err());
         }
     }
-    assert!(converted(28, &sheet, 740).is_ok());
+    assert!(converted(28, &sheet, 38 * 20).is_ok());
 }
 
 /// "Other fields keep their bytes with the new ones zero or measurements 5 and 6".

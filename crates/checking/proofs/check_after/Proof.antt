@@ -1,6 +1,6 @@
 -- One pass over the records, up to the first that has a fault.
-use Rattle.arithmetic.proofs.Basics.{_+_, _-_, _/_, _<_, arith, length, needs}
-use Rattle.rules.specs.Sheet.{size, records}
+use Rattle.arithmetic.proofs.Basics.{_+_, _-_, _*_, _/_, _<_, arith, length, needs}
+use Rattle.rules.specs.Sheet.{morePollutants, size, most, records}
 use Rattle.accepted.proofs.Sheets.{whole-inside}
 use Rattle.record.specs.Sizes.{widthIs}
 use Rattle.faults.proofs.Agreement.{limits-fit}
@@ -19,7 +19,7 @@ inside : (c : tie.In-loop Inv-loop μ-loop) → let a = c .before .before .befor
     c .before .loop .k < length (a .bytes .now) / size (widthIs (a .size))
 inside c = rw (c .before .before .records-in .ensures) at (c .loop-test .taken)
 
-place-few : (c : tie.After-fault-of Inv-loop μ-loop) → let l = c .before .before .before in l .before .before .before .args .first + l .loop .k < 78
+place-few : (c : tie.After-fault-of Inv-loop μ-loop) → let l = c .before .before .before in l .before .before .before .args .first + l .loop .k < 2 * most morePollutants
 place-few c = let l = c .before .before in few _ _ (l .before .loop .inv) (inside l) (l .before .before .before .before .pre)
 
 refused : tie.Need-returns Inv-loop μ-loop

@@ -1,6 +1,6 @@
 -- A size that there is not, the sheet's own refusal, 31, 32, or the sheet in the other size.
 use Rattle.arithmetic.proofs.Basics.{_+_, _*_, _/_, _≤_, div-le-of-le-mul, mul-le-mul, arith, _≡_, sym, ap, _∙_, refl, length, needs}
-use Rattle.rules.specs.Sheet.{size, most}
+use Rattle.rules.specs.Sheet.{morePollutants, size, most}
 use Rattle.rules.specs.Converter.{converted}
 use Rattle.accepted.proofs.Faultless.{sound}
 use Rattle.record.specs.declared.Size.{Size}
@@ -63,15 +63,15 @@ added-most Twenty = omega arith
 added-most TwentyEight = omega arith
 
 -- its records are few, so that the room for them is a number
-few : (c : tie.After-records-in) → (20 + c .before .added-bytes .result) * c .records-in .result ≤ 28 * 39
+few : (c : tie.After-records-in) → (20 + c .before .added-bytes .result) * c .records-in .result ≤ size morePollutants * most morePollutants
 unfolding carrying named
 few c =
     let k = carrying (c .before) in
     let z = named (k .before .before .before) .size .given .0 .0 in
     let w = widthIs z in
     let n = div-le-of-le-mul (size w) {m = length (named (k .before .before .before) .before .before .before .before .before .args .sheet .now)} {n = most w} (omega (arith, sound w _ (said k .accepts) .longest)) in
-    let bytes : 20 + c .before .added-bytes .result ≤ 28 = omega (arith, c .before .added-bytes .ensures, added-most z) in
-    let many : c .records-in .result ≤ 39 = omega (arith, c .records-in .ensures, width-range z, n) in
+    let bytes : 20 + c .before .added-bytes .result ≤ size morePollutants = omega (arith, c .before .added-bytes .ensures, added-most z) in
+    let many : c .records-in .result ≤ most morePollutants = omega (arith, c .records-in .ensures, width-range z, n) in
     mul-le-mul bytes many
 
 returns-4 : tie.Need-returns-4

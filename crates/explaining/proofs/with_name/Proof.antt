@@ -14,19 +14,23 @@ returns-2 c =
     let d = c .before in
     rw (d .before .before .enum-told .given .1) (at-most 20 (add-then (add-word (d .with-word2 .ensures)) (c .with-number2 .ensures)) (omega arith))
 
-returns-4 : tie.Need-returns-4
-returns-4 c =
+returns-5 : tie.Need-returns-5
+returns-5 c =
     let d = c .before in
-    rw (d .before .before .before .step2 .given .1) (at-most 20 (add-then (add-word (d .with-word4 .ensures)) (c .with-number3 .ensures)) (omega arith))
+    rw (d .before .before .before .step2 .given .1) (at-most 20 (add-then (add-word (d .with-word5 .ensures)) (c .with-number3 .ensures)) (omega arith))
 
 pub with-name-spec : {M : Type 1} → statement M
 with-name-spec =
     tie.close
     (tie.spec
-    (λ c. search needs) (λ c. search needs) (λ c κs. search needs) (λ c κs. search needs) (λ c. search needs)
-    (λ c. search needs) (λ c κs. search needs) (λ c κs. search needs) (λ c. search needs) (λ c. search needs)
-    (λ c κs. search needs) (λ c. search needs) (λ c. search needs) (λ c κs. search needs) (λ c κs. search needs)
-    (λ c. search needs) (λ c. search needs) (λ c κs. search needs) returns returns-2
+    (λ c. search needs) (λ c. search needs) (λ c κs. search needs) (λ c κs. search needs)
+    (λ c. search needs) (λ c. search needs) (λ c κs. search needs) (λ c κs. search needs)
+    (λ c. search needs) (λ c. search needs) (λ c κs. search needs)
+    (λ c. search needs) (λ c. search needs) (λ c κs. search needs)
+    (λ c. search needs) (λ c. search needs) (λ c κs. search needs) (λ c κs. search needs)
+    (λ c. search needs) (λ c. search needs) (λ c κs. search needs)
+    returns returns-2
     (λ c. rw (c .before .before .enum-told2 .given .1) (at-most 20 (add-word (c .with-word3 .ensures)) (omega arith)))
-    returns-4
-    (λ c. rw (c .before .before .enum-told3 .given .1) (at-most 20 (add-word (c .with-word5 .ensures)) (omega arith))))
+    (λ c. rw (c .before .before .enum-told3 .given .1) (at-most 20 (add-word (c .with-word4 .ensures)) (omega arith)))
+    returns-5
+    (λ c. rw (c .before .before .enum-told4 .given .1) (at-most 20 (add-word (c .with-word6 .ensures)) (omega arith))))

@@ -63,6 +63,17 @@ returns-4 c =
     let k = d .before .before in
     rw (found (k .before)) (skip-eq _ _ _ (k .kind-of .ensures .0) (d .before .if2 .left) (stop-eq _ _ _ (k .kind-of .ensures .0) (d .if3 .taken) (cc)))
 
+returns-6 : tie.Need-returns-6
+unfolding stepOf
+returns-6 c =
+    let d = c .before .before .before in
+    let k = d .before .before .before .before in
+    rw (found (k .before))
+    (skip-eq _ _ _ (k .kind-of .ensures .0) (d .before .before .before .if2 .left)
+    (skip-eq _ _ _ (k .kind-of .ensures .0) (d .before .before .if3 .left)
+    (skip-eq _ _ _ (k .kind-of .ensures .0) (d .before .if4 .left)
+    (stop-eq _ _ _ (k .kind-of .ensures .0) (d .if5 .taken) (cc)))))
+
 pub step-at-spec : {M : Type 1} → statement M
 unfolding stepOf
 step-at-spec =
@@ -75,4 +86,6 @@ step-at-spec =
     (λ c κs. search needs) (λ c κs. search needs) (λ c κs. search needs) (λ c κs. search needs) (λ c κs. search needs) (λ c κs. search needs) (λ c κs. search needs)
     returns-4
     (λ c. rw (found (c .before .before .before .before)) (search chain depth 9))
-    (λ c. rw (found (c .before .before .before .before)) (search chain depth 9)))
+    (λ c κs. search needs) (λ c κs. search needs) (λ c κs. search needs)
+    returns-6
+    (λ c. rw (found (c .before .before .before .before .before)) (search chain depth 12)))

@@ -2,7 +2,7 @@
 
 use super::{wrong, Wrong};
 use crate::check::{check, Record, Refusal, Series};
-use crate::check::{FOUR_POLLUTANTS, POLLUTANT, SIX_POLLUTANTS, STOP};
+use crate::check::{FOUR_POLLUTANTS, POLLUTANT, SIX_POLLUTANTS, SMALL_ENGINE, STOP};
 use crate::document::{Document, Document01};
 
 pub fn convert() -> Vec<Wrong> {
@@ -190,11 +190,11 @@ fn order_of_refusals() -> Vec<Wrong> {
     vec![
         wrong!(
             "convert: 1 before 30",
-            fn sheet_fault(&self, size: usize, length: usize) -> Option<u8> {
-                if length == 0 {
+            fn sheet_fault(&self, size: usize, sheet: &[u8]) -> Option<u8> {
+                if sheet.is_empty() {
                     Some(1)
                 } else {
-                    Document01.sheet_fault(size, length)
+                    Document01.sheet_fault(size, sheet)
                 }
             }
         ),
@@ -356,6 +356,14 @@ fn bytes_carried() -> Vec<Wrong> {
             }
         ),
         wrong!(
+            // Of an accepted sheet this byte is a small engine's alone, the highest of its date.
+            "convert: byte 11 left zero",
+            fn carry_record(&self, record: &Record, place: &mut Record) {
+                Document01.carry_record(record, place);
+                place[11] = 0;
+            }
+        ),
+        wrong!(
             "convert: byte 3 left zero",
             fn carry_record(&self, record: &Record, place: &mut Record) {
                 Document01.carry_record(record, place);
@@ -405,6 +413,44 @@ fn sheets_carried() -> Vec<Wrong> {
             }
         ),
         wrong!(
+            "convert: a small engine not carried",
+            fn carry_record(&self, record: &Record, place: &mut Record) {
+                if record[0] != SMALL_ENGINE {
+                    Document01.carry_record(record, place);
+                }
+            }
+        ),
+        wrong!(
+            "convert: 2 for a small engine",
+            fn kind_fits(&self, kind: u8) -> bool {
+                (1..=3).contains(&kind)
+            }
+        ),
+        wrong!(
+            "convert: 16 not asked",
+            fn small_engine_place_fits(&self, _: &Series) -> bool {
+                true
+            }
+        ),
+        wrong!(
+            "convert: 17 not asked",
+            fn date_fits(&self, _: u32) -> bool {
+                true
+            }
+        ),
+        wrong!(
+            "convert: 18 not asked",
+            fn particulate_limit_fits(&self, _: &Record, _: &Series) -> bool {
+                true
+            }
+        ),
+        wrong!(
+            "convert: 37 records at most, 39 of 28 bytes",
+            fn most_records(&self, size: usize) -> usize {
+                Document01.most_records(size) - 1
+            }
+        ),
+        wrong!(
             "convert: a sheet of whole records carried unchecked",
             fn convert_refusal(
                 &self,
@@ -414,7 +460,7 @@ fn sheets_carried() -> Vec<Wrong> {
                 checked: Result<Series, Refusal>,
             ) -> Option<Refusal> {
                 match Document01.convert_refusal(size, sheet, output, checked) {
-                    Some(Refusal { number: 2..=12, .. }) => None,
+                    Some(refusal) if is_of_record(refusal) => None,
                     refusal => refusal,
                 }
             }
@@ -454,8 +500,19 @@ fn written() -> Vec<Wrong> {
         wrong!(
             "convert: a sheet with a fault written",
             fn is_carried(&self, refusal: Option<Refusal>) -> bool {
-                refusal.is_none_or(|refusal| (2..=12).contains(&refusal.number))
+                refusal.is_none_or(is_of_record)
+            }
+        ),
+        wrong!(
+            "convert: a sheet with a fault in its small engine written",
+            fn is_carried(&self, refusal: Option<Refusal>) -> bool {
+                refusal.is_none_or(|refusal| (16..=18).contains(&refusal.number))
             }
         ),
     ]
+}
+
+/// The refusals that name a record.
+fn is_of_record(refusal: Refusal) -> bool {
+    matches!(refusal.number, 2..=12 | 16..=18)
 }

@@ -18,6 +18,7 @@ mod families;
 mod probe;
 mod report;
 mod sizes;
+mod small_engine;
 
 use crate::document::Document;
 use before_f_9::OldUnits;
@@ -31,6 +32,7 @@ pub use probe::{brackets, brackets_of_few, logarithm};
 pub use probe::{evidence, evidence_by_size, lines, reader, reader_by_size};
 pub use report::report_and_append;
 pub use sizes::sizes;
+pub use small_engine::small_engine;
 
 /// One wrong reading.
 pub struct Wrong {

@@ -2,8 +2,9 @@
 //! bracket, in what evidence hands back, in the printed lines, and in a sheet under reading.
 
 use super::families::GOff;
-use super::{wrong, OldUnits, SixteenSteps, Wrong};
-use crate::check::{number_at, Record, Refusal, FOUR_POLLUTANTS, SIX_POLLUTANTS};
+use super::{small_engine, wrong, OldUnits, SixteenSteps, Wrong};
+use crate::check::{number_at, Record, Refusal, Series};
+use crate::check::{FOUR_POLLUTANTS, SIX_POLLUTANTS};
 use crate::document::{Document, Document01};
 use crate::judge::Ground;
 use std::borrow::Cow;
@@ -58,6 +59,27 @@ pub fn evidence() -> Vec<Wrong> {
                 match ground {
                     Ground::Row => through_engine - 1,
                     _ => Document01.evidence_records(ground, through_engine, whole),
+                }
+            }
+        ),
+        wrong!(
+            "evidence: the small engine's record not counted",
+            fn records_through(&self, engine: u8, series: &Series) -> usize {
+                series.declared + usize::from(engine)
+            }
+        ),
+        wrong!(
+            "evidence: a record counted for the small engine on every sheet",
+            fn records_through(&self, engine: u8, series: &Series) -> usize {
+                series.declared + 1 + usize::from(engine)
+            }
+        ),
+        wrong!(
+            "evidence: the whole sheet where there is a small engine",
+            fn records_through(&self, engine: u8, series: &Series) -> usize {
+                match series.small_engines {
+                    0 => Document01.records_through(engine, series),
+                    _ => series.records().count(),
                 }
             }
         ),
@@ -160,6 +182,12 @@ pub fn brackets_of_few() -> Vec<Wrong> {
 
 /// A sheet under reading.
 pub fn reader() -> Vec<Wrong> {
+    let mut all = small_engine::fields("reader");
+    all.extend(steps());
+    all
+}
+
+fn steps() -> Vec<Wrong> {
     vec![
         wrong!(
             "reader: the cause with its bytes exchanged",
@@ -171,6 +199,23 @@ pub fn reader() -> Vec<Wrong> {
             "reader: measurements 2 and 3 exchanged",
             fn measurement(&self, record: &Record, pollutant: usize) -> u32 {
                 number_at(record, [4, 12, 8, 16, 20, 24][pollutant])
+            }
+        ),
+        wrong!(
+            "reader: kind 5 as another kind",
+            fn kind_fits(&self, kind: u8) -> bool {
+                (1..=3).contains(&kind)
+            }
+        ),
+        wrong!(
+            "reader: a date that is no day left out",
+            fn date(&self, record: &Record) -> u32 {
+                let date = Document01.date(record);
+                if self.date_fits(date) {
+                    date
+                } else {
+                    0
+                }
             }
         ),
         wrong!(
@@ -215,20 +260,20 @@ pub fn evidence_by_size() -> Vec<Wrong> {
         ),
         wrong!(
             "evidence: 1 before 30",
-            fn sheet_fault(&self, size: usize, length: usize) -> Option<u8> {
-                if length == 0 {
+            fn sheet_fault(&self, size: usize, sheet: &[u8]) -> Option<u8> {
+                if sheet.is_empty() {
                     Some(1)
                 } else {
-                    Document01.sheet_fault(size, length)
+                    Document01.sheet_fault(size, sheet)
                 }
             }
         ),
         wrong!(
             "evidence: a size of 24 accepted",
-            fn sheet_fault(&self, size: usize, length: usize) -> Option<u8> {
+            fn sheet_fault(&self, size: usize, sheet: &[u8]) -> Option<u8> {
                 match size {
                     24 => None,
-                    _ => Document01.sheet_fault(size, length),
+                    _ => Document01.sheet_fault(size, sheet),
                 }
             }
         ),

@@ -502,7 +502,7 @@ fn refusals() -> Vec<Wrong> {
         wrong!(
             "refusal 2: kind 0 taken for a stop",
             fn kind_fits(&self, kind: u8) -> bool {
-                kind <= 3
+                kind == 0 || Document01.kind_fits(kind)
             }
         ),
         wrong!(
@@ -658,7 +658,7 @@ fn operations() -> Vec<Wrong> {
         ),
         wrong!(
             "append: a refused record is written",
-            fn stays_written(&self, _: bool) -> bool {
+            fn stays_written(&self, _: Option<Refusal>) -> bool {
                 true
             }
         ),

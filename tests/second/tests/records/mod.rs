@@ -1,4 +1,11 @@
-//! Records of either size, for the documents' cases.
+//! Records and sheets of either size, for the documents' cases. Each test file takes what it needs.
+
+#![allow(dead_code)]
+
+use second::{judge, Document, Judgement, Refusal, SIZES};
+
+/// What memory holds before a call.
+pub const UNWRITTEN: u8 = 0xA5;
 
 /// Kind 1.
 pub fn pollutant(size: usize, number: u8, plan: u8, limit: u32, deviation: u32) -> Vec<u8> {
@@ -25,4 +32,43 @@ pub fn stop(size: usize) -> Vec<u8> {
     let mut record = vec![3];
     record.resize(size, 0);
     record
+}
+
+/// Kind 5.
+pub fn small_engine(size: usize, volume: u16, speed: u16, date: u32) -> Vec<u8> {
+    let mut record = vec![5, 0];
+    record.extend(volume.to_le_bytes());
+    record.extend(speed.to_le_bytes());
+    record.extend([0, 0]);
+    record.extend(date.to_le_bytes());
+    record.resize(size, 0);
+    record
+}
+
+/// The fullest sheet of plan 1 with these pollutants: a small engine, 32 engines and a stop. The
+/// limits are 150, which is the rule's for an engine of 700 cm³.
+pub fn fullest(size: usize, numbers: &[u8]) -> Vec<u8> {
+    let measured: Vec<(usize, u32)> = numbers.iter().map(|&n| (n.into(), 150)).collect();
+    let mut sheet = Vec::new();
+    for &number in numbers {
+        sheet.extend(pollutant(size, number, 1, 150, 4_000_000));
+    }
+    sheet.extend(small_engine(size, 700, 3001, 19_980_930));
+    sheet.extend(engine(size, 0, &measured).repeat(32));
+    sheet.extend(stop(size));
+    sheet
+}
+
+pub fn refused<T>(number: u8, record: u8) -> Result<T, Refusal> {
+    Err(Refusal { number, record })
+}
+
+/// One sheet in records of each size.
+pub type Sheets = [Vec<u8>; 2];
+
+/// The answer to both sheets.
+pub fn judged(document: &impl Document, sheets: &Sheets) -> Result<Judgement, Refusal> {
+    let [four, six] = [0, 1].map(|place| judge(document, SIZES[place], &sheets[place]));
+    assert_eq!(four, six);
+    four
 }

@@ -10,5 +10,6 @@ unfolding engineFault
 engine-fault-spec =
     tie.close
     (tie.spec
-    (λ c. search chains depth 12) (λ c κs. search needs) (λ c. search chains depth 12) (λ c κs. search needs) (λ c. search chains depth 12) (λ c κs. search needs)
+    (λ c κs. search needs) (λ c. search chains depth 12) (λ c κs. search needs) (λ c. search chains depth 12) (λ c κs. search needs) (λ c. search chains depth 12)
+    (λ c κs. search needs)
     (λ c. search chains depth 12 fits 2000) (λ c. search chains depth 12 fits 2000) (λ c κs. search needs) (λ c. search chains depth 12 fits 2000) (λ c. search chains depth 12 fits 2000))

@@ -10,5 +10,9 @@ unfolding faultBy
 fault-of-spec =
     tie.close
     (tie.spec
+    (λ c κs. search needs) (λ c κs. search needs) (λ c. search chain depth 9)
     (λ c κs. search needs) (λ c κs. search needs) (λ c κs. search needs) (λ c κs. search needs)
-    (λ c. search chain depth 9) (λ c. search chain depth 9) (λ c. search chain depth 9) (λ c. search chain depth 9))
+    (λ c. rw (← (c .before .before .unused-from-twelve .ensures)) (search chain depth 9))
+    (λ c. rw (← (c .before .before .before .unused-from-twelve .ensures)) (search chain depth 9))
+    (λ c. rw (← (c .before .before .before .before .unused-from-twelve .ensures)) (search chain depth 9))
+    (λ c. search chain depth 9))

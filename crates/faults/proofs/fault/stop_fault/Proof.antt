@@ -10,5 +10,5 @@ unfolding stopFault
 stop-fault-spec =
     tie.close
     (tie.spec
-    (λ c. search chains depth 12) (λ c. search chains depth 12) (λ c κs. search needs)
+    (λ c κs. search needs) (λ c. search chains depth 12) (λ c. search chains depth 12) (λ c κs. search needs)
     (λ c. search chains depth 12) (λ c. search chains depth 12))

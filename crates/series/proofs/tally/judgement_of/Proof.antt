@@ -4,22 +4,22 @@ use Rattle.rules.specs.Sheet.{Pollutant, pollutant}
 use Rattle.accepted.specs.Sheets.{recordAt}
 use Rattle.accepted.proofs.Sheets.{few, inside, record-inside}
 use Rattle.record.specs.Sizes.{widthIs}
-use Rattle.series.proofs.Looping.{Opened, Kept, sheet, kept-none, column-range, kept-more}
+use Rattle.series.proofs.Looping.{Opened, Kept, sheet, pollutants-first, kept-none, column-range, kept-more}
 use Rattle.series.proofs.Judging.{gate-range, engines-few, gate-fits, judged-so}
 use Rattle.series.proofs.tally.judgement_of.Statement.{statement}
 use Rattle.series.proofs.tally.judgement_of.Tie as tie
 
 abbrev Inv-loop : tie.InvT-loop
-Inv-loop size bytes sheet plan start gate t₀ k₀ t k = Kept size bytes start plan gate k t
+Inv-loop size bytes sheet plan declared start gate t₀ k₀ t k = Kept size bytes declared plan gate k t
 
 abbrev μ-loop : tie.MeasureT-loop
-μ-loop size bytes sheet plan start gate t₀ k₀ t k = start - k
+μ-loop size bytes sheet plan declared start gate t₀ k₀ t k = declared - k
 
 abbrev start : tie.After-gate-of Inv-loop μ-loop → tie.Start Inv-loop μ-loop
-start c = c .before .before .before .before .before
+start c = c .before .before .before .before .before .before
 
-opened : (c : tie.After-gate-of Inv-loop μ-loop) → let a = start c .args in Opened (a .size) (a .bytes .now) (a .sheet) (c .before .before .before .of .result) (c .gate-of .result)
-opened c = record { valid = start c .pre; planned = c .before .before .before .of .ensures; gated = c .gate-of .ensures }
+opened : (c : tie.After-gate-of Inv-loop μ-loop) → let a = start c .args in Opened (a .size) (a .bytes .now) (a .sheet) (c .before .before .before .before .of .result) (c .gate-of .result)
+opened c = record { valid = start c .pre; planned = c .before .before .before .before .of .ensures; gated = c .gate-of .ensures }
 
 abbrev gate-before : tie.In-loop Inv-loop μ-loop → tie.After-gate-of Inv-loop μ-loop
 gate-before c = c .before .before .before .before
@@ -43,7 +43,8 @@ add-k : tie.Need-add-k Inv-loop μ-loop
 add-k c =
     let i = c .before .before .before .before .before .before .before in
     let t = i .loop-test .taken in
-    omega (arith, few (sheet (opened (gate-before i))))
+    let o = opened (gate-before i) in
+    omega (arith, few (sheet o), pollutants-first o)
 
 loop-again : tie.Need-loop-again Inv-loop μ-loop
 loop-again c =
@@ -61,11 +62,14 @@ pub judgement-of-spec : {M : Type 1} → statement M
 judgement-of-spec =
     tie.close
     (tie.spec
-    Inv-loop μ-loop (λ c κs. search needs) (λ c. search needs) (λ c. search needs)
-    (λ c κs. let o = c .before .before in gate-range (o .before .before .pre) (o .of .ensures))
+    Inv-loop μ-loop (λ c κs. search needs) (λ c. search needs) (λ c. search needs) (λ c. search needs)
+    (λ c κs. let o = c .before .before .before in gate-range (o .before .before .pre) (o .of .ensures))
     (λ c κs. search needs) (λ c κs. search needs)
     (λ c. kept-none (opened (c .before .before)) (c .before .rows .ensures) (c .none .ensures))
-    (λ c κs. let t = c .loop-test .taken in record { inside = record-inside _ _ _ _ (inside (sheet (opened (gate-before c)))) (omega arith) })
+    (λ c κs.
+    let t = c .loop-test .taken in
+    let o = opened (gate-before c) in
+    record { inside = record-inside _ _ _ _ (inside (sheet o)) (omega (arith, pollutants-first o)) })
     (λ c κs. search needs) (λ c κs. search needs) (λ c κs. search needs) (λ c. search needs) column-requires
     (λ c κs. search needs) add-k
     (λ c. let t = c .before .before .before .before .before .before .before .loop-test .taken in omega arith)

@@ -13,6 +13,7 @@ use compare::program;
 use compare::promises;
 use compare::refusals::WAYS;
 use compare::seen::{print_exact, print_pairs, Seen};
+use compare::small_engines::{date_sheets, volume_and_speed_sheets};
 use compare::sweeps::{cause_sheets, logarithm_trials};
 use compare::tally::Tally;
 use library::{Library, LIBRARY};
@@ -45,6 +46,7 @@ fn compare(scale: Scale, step: usize) -> ExitCode {
         compare_empty(size, &mut tally);
         sweep_logarithms(&series.paper, size, step, &mut tally);
         sweep_causes(size, step, &mut tally);
+        sweep_small_engines(size, step, &mut tally);
         promises::keep(size, scale.promises, &mut tally);
     }
     print_pairs(&series, &mut tally);
@@ -103,8 +105,8 @@ fn lengths(origin: Origin, sheets: usize) -> Lengths {
     }
 }
 
-/// A sheet damaged in one way has to be refused with that way's number, and one with a byte that
-/// must be zero with 12 at its record.
+/// A sheet damaged in one way has to be refused with that way's number, one with a byte that must be
+/// zero with 12 at its record, and one of the most records, if at all, never for its length.
 fn note_damage(size: usize, origin: Origin, sheet: &[u8], ways: &mut [u64], tally: &mut Tally) {
     let refusal = || check(&Document01, size, sheet).err();
     match origin {
@@ -118,6 +120,10 @@ fn note_damage(size: usize, origin: Origin, sheet: &[u8], ways: &mut [u64], tall
             let expected = Refusal { number, record };
             tally.expect(refusal() == Some(expected), sheet, "a byte without a field");
         }
+        Origin::Longest => {
+            let by_record = refusal().is_none_or(|refusal| refusal.number != 1);
+            tally.expect(by_record, sheet, "not refused for its length");
+        }
         _ => {}
     }
 }
@@ -128,7 +134,10 @@ fn print_ways(size: usize, counts: &[u64], tally: &mut Tally) {
             tally.gap(&format!("{}, in records of {size} bytes", way.name));
         }
     }
-    println!("  {} ways to the refusals 1 to 12, each taken", WAYS.len());
+    println!(
+        "  {} ways to the refusals of a sheet, each taken",
+        WAYS.len()
+    );
 }
 
 /// The chosen sheets get the reports asked for, from both; and both part every pair.
@@ -149,13 +158,16 @@ fn compare_chosen(corpus: &Corpus, tally: &mut Tally) {
 
 /// The library's whole report against the second implementation's, and against the one asked for.
 fn compare_asked(size: usize, chosen: &Chosen, origin: &str, tally: &mut Tally) {
-    let Chosen { sheet, report } = chosen;
+    let Chosen {
+        sheet,
+        reported: asked,
+    } = chosen;
     let [library, second] =
         [&LIBRARY as &dyn Operations, &SECOND].map(|operations| reported(operations, size, sheet));
     let against_second = || format!("report by {size}, {origin}");
     tally.compare(sheet, against_second, library, second);
     let against_asked = || format!("report by {size} and the one asked for (as second), {origin}");
-    tally.compare(sheet, against_asked, library, (0, *report));
+    tally.compare(sheet, against_asked, library, *asked);
 }
 
 /// NULL is lent with length 0, and has to be taken like an empty slice.
@@ -209,6 +221,20 @@ fn sweep_causes(size: usize, step: usize, tally: &mut Tally) {
         compare_asked(size, &chosen, "the sweep of causes", tally);
     }
     println!("{sheets} sheets: reports with equal causes, and with causes that differ in one bit");
+}
+
+fn sweep_small_engines(size: usize, step: usize, tally: &mut Tally) {
+    let mut sheets = [0; 2];
+    for chosen in date_sheets(size, step) {
+        sheets[0] += 1;
+        compare_asked(size, &chosen, "the sweep of dates", tally);
+    }
+    for chosen in volume_and_speed_sheets(size, step) {
+        sheets[1] += 1;
+        compare_asked(size, &chosen, "the sweep of volumes and speeds", tally);
+    }
+    let [dates, others] = sheets;
+    println!("{dates} sheets with a small engine's dates, {others} with its volumes and speeds");
 }
 
 /// F-10: "30, size not 20 or 28, before every other", and nothing is written.

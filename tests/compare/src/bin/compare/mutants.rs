@@ -7,6 +7,7 @@ use compare::corpus::{Corpus, LineSeries, Scale, FULL};
 use compare::memory::{Boxes, Edge};
 use compare::paper::{Chosen, Paper};
 use compare::program::Mutants;
+use compare::small_engines::{date_sheets, volume_and_speed_sheets};
 use compare::sweeps::{cause_sheets, logarithm_trials, logarithm_trials_with, LogarithmTrial};
 use random::Random;
 use second::variants;
@@ -28,6 +29,13 @@ pub fn catch() -> ExitCode {
         let caught_by = corpora
             .each_ref()
             .map(|corpus| caught_by(corpus, &series.paper, reading));
+        mutants.note_both(&wrong, caught_by);
+    }
+    for wrong in variants::small_engine() {
+        let reading = wrong.reading.as_ref();
+        let caught_by = corpora.each_ref().map(|corpus| {
+            in_corpus(corpus, reading).or_else(|| in_small_engines(corpus.size, reading))
+        });
         mutants.note_both(&wrong, caught_by);
     }
     for wrong in variants::sizes() {
@@ -136,6 +144,13 @@ fn in_logarithms(
 fn is_in_causes(size: usize, wrong: &dyn Document) -> bool {
     let differs = |chosen: Chosen| differ(size, wrong, &chosen.sheet);
     cause_sheets(size, 1).any(differs)
+}
+
+/// Whether a report of the sweeps of small engines shows it.
+fn in_small_engines(size: usize, wrong: &dyn Document) -> Option<String> {
+    let mut sheets = date_sheets(size, 1).chain(volume_and_speed_sheets(size, 1));
+    let found = sheets.any(|chosen| differ(size, wrong, &chosen.sheet));
+    found.then(|| format!("report by {size} (sweep of small engines)"))
 }
 
 /// The reports differ.

@@ -1,8 +1,12 @@
 //! What the compared conversions showed from records of one size: every refusal, also where a later
-//! one would have been due, outputs of every kind, and the shortest and the longest sheets carried.
+//! one would have been due, outputs of every kind, the shortest and the longest sheets carried, and
+//! small engines.
 
 use compare::cases::Answer;
+use compare::clauses::has_small_engine;
 use compare::conversions::Conversion;
+use compare::draft::POLLUTANT;
+use compare::refusals::OF_RECORD;
 use compare::tally::{Kinds, Tally};
 use second::{Document, Document01, FOUR_POLLUTANTS, SIX_POLLUTANTS};
 use std::fmt;
@@ -18,6 +22,7 @@ enum Kind {
     ExactRoom,
     RoomToSpare,
     Records(usize),
+    SmallEngine,
 }
 
 impl fmt::Display for Kind {
@@ -30,16 +35,18 @@ impl fmt::Display for Kind {
             Kind::ExactRoom => write!(formatter, "into an output of the very length"),
             Kind::RoomToSpare => write!(formatter, "into a longer output"),
             Kind::Records(records) => write!(formatter, "{records} records carried"),
+            Kind::SmallEngine => write!(formatter, "a small engine carried"),
         }
     }
 }
 
 /// What has to be seen from records of this size.
 fn demanded(size: usize) -> Vec<Kind> {
-    let mut kinds: Vec<Kind> = (1..=12).map(Kind::Refusal).collect();
-    kinds.extend((2..=12).map(Kind::BeforeTooShort));
+    let mut kinds = vec![Kind::Refusal(1)];
+    kinds.extend(OF_RECORD.map(Kind::Refusal));
+    kinds.extend(OF_RECORD.map(Kind::BeforeTooShort));
     if size == SIX_POLLUTANTS {
-        kinds.extend((2..=12).map(Kind::BeforeTooNarrow));
+        kinds.extend(OF_RECORD.map(Kind::BeforeTooNarrow));
         kinds.extend([Kind::Refusal(31), Kind::BeforeTooShort(31)]);
     }
     kinds.extend([
@@ -49,6 +56,7 @@ fn demanded(size: usize) -> Vec<Kind> {
         Kind::RoomToSpare,
         Kind::Records(1),
         Kind::Records(Document01.most_records(FOUR_POLLUTANTS)),
+        Kind::SmallEngine,
     ]);
     kinds
 }
@@ -68,6 +76,9 @@ impl Seen {
                 Kind::RoomToSpare
             });
             self.0.count(Kind::Records(sheet.len() / size));
+            if has_small_engine(size, sheet) {
+                self.0.count(Kind::SmallEngine);
+            }
             return;
         }
         self.0.count(Kind::Refusal(number));
@@ -90,5 +101,5 @@ impl Seen {
 /// A record of kind 1 has a pollutant that 20 bytes have no place for.
 fn declares_too_much(size: usize, sheet: &[u8]) -> bool {
     let mut records = sheet.chunks_exact(size);
-    records.any(|record| record[0] == 1 && (5..=6).contains(&record[1]))
+    records.any(|record| record[0] == POLLUTANT && (5..=6).contains(&record[1]))
 }

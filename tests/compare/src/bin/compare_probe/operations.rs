@@ -8,7 +8,7 @@ use second::{evidence, lines, Document, Reader, Step};
 /// none.
 pub type Evidence = (usize, u32);
 
-/// What stands at a reader: how many whole records are left, which step of five, and its fields.
+/// What stands at a reader: how many whole records are left, which step, and its fields.
 pub type Standing = (usize, [u32; 8]);
 
 pub trait Operations {
@@ -88,7 +88,7 @@ impl<D: Document + ?Sized> Operations for Second<'_, D> {
     }
 }
 
-/// The step's number and its seven fields.
+/// The step's number, which is its record's kind where that is known, and its seven fields.
 fn fields(step: Step) -> [u32; 8] {
     match step {
         Step::Pollutant {
@@ -102,8 +102,13 @@ fn fields(step: Step) -> [u32; 8] {
             measurements: [one, two, three, four, five, six],
         } => [2, cause.into(), one, two, three, four, five, six],
         Step::Stop => [3, 0, 0, 0, 0, 0, 0, 0],
-        Step::Other { kind } => [4, kind.into(), 0, 0, 0, 0, 0, 0],
-        Step::End => [5, 0, 0, 0, 0, 0, 0, 0],
+        Step::SmallEngine {
+            volume,
+            speed,
+            date,
+        } => [5, volume.into(), speed.into(), date, 0, 0, 0, 0],
+        Step::Other { kind } => [100, kind.into(), 0, 0, 0, 0, 0, 0],
+        Step::End => [101, 0, 0, 0, 0, 0, 0, 0],
     }
 }
 
