@@ -2,7 +2,7 @@
 use Rattle.arithmetic.proofs.Basics.{ℕ, zero, suc, _*_, _%_, _≤_, arith, _≡_, refl, sym, ap, _∙_, Bool, true, false, not, _&&_, _||_, cond, List, [], _∷_, _++_}
 use Rattle.arithmetic.proofs.Basics.{append-assoc, append-nil, eqb, leb, ltb, length, eqb-true, eqb-false, not-false, ne-eqb, lt-leb, ltb-false}
 use Rattle.arithmetic.proofs.Basics.{never, or-false, and-left, and-right, and-never, by-test, any-left, any-last, those-append}
-use Rattle.rules.specs.Tools.{any, within}
+use Rattle.rules.specs.Tools.{any}
 use Rattle.rules.specs.Sheet.{Record, size, most, records, pollutantKind, engineKind, stopKind, smallEngineKind, kind, ofKind, heading, planNumber, declared, stopped}
 use Rattle.rules.specs.Refusals.{isKind, misplaced, lastKind, badSmallEngine, badNumber, badPlan, badLimit, badDeviation, badMeasurement, badCause, tooMany, unused, Fault, fault, first, faults, faultOf}
 use Rattle.rules.specs.Refusals.{Check, accepted, refused, checkFrom, badLength, check}

@@ -5,12 +5,12 @@ ghost use mathlib.Core.Path.{_≡_};
 ghost use mathlib.Core.Bool.{_||_};
 ghost use Prim.Native.Nat.{_+_};
 ghost use Rattle.plan.specs.Plan.{planIs};
-ghost use Rattle.record.specs.Sizes.{widthIs};
+ghost use Rattle.layout.specs.Sizes.{widthIs};
 ghost use Rattle.columns.specs.Columns.{rowsOf};
 ghost use Rattle.causes.specs.Causes.{equalCauses, repeatsIn, looksBy, gateIs, gateOf, inServiceGate};
 ghost use Rattle.causes.specs.Ranges.{EnginesRange, InServiceRange, GateRange};
+use layout::Size;
 use plan::Plan;
-use record::Size;
 use record::cause_of;
 use record::record_at;
 
@@ -96,7 +96,7 @@ fn in_service_gate(size: Size, bytes: &[u8], start: usize, engines: usize) -> Ga
     Gate::Open(engines as u8)
 }
 
-// The rows of an accepted sheet; plans 1 to 3 and 5 end no series before a row's statistics. For `series` alone, which has checked the sheet: so it may require.
+// The rows of an accepted sheet; plans 1 to 3 and 5 end no series before a row's statistics. For `tally` alone, which has what the check says of the sheet: so it may require.
 pub fn gate_of(size: Size, bytes: &[u8], start: usize, engines: usize, plan: Plan) -> Gate
     requires { ⌜ GateRange (widthIs size) (now bytes) start engines plan ⌝ }
     ensures { λ g. ⌜ gateIs g ≡ gateOf (widthIs size) (planIs plan) (now (bytes .entry)) engines ⌝ }

@@ -8,14 +8,14 @@ use Rattle.accepted.specs.Sheets.{pollutantsIn, enginesIn, AcceptedSheet}
 use Rattle.accepted.proofs.ByNumber.{limitOf}
 use Rattle.accepted.proofs.Records.{records-append, length-records}
 use Rattle.accepted.proofs.Faultless.{Clean, clean-of, cond-accepted, length-fine, sound, check-clean}
-use Rattle.record.specs.declared.Size.{Size}
-use Rattle.record.specs.declared.Named.{Named}
-use Rattle.record.specs.declared.Named.the-variants.{Known, Unknown}
-use Rattle.record.specs.Sizes.{widthIs, nameOf}
-use Rattle.record.proofs.Sizes.{width-range, known-size, unknown-size}
+use Rattle.layout.specs.declared.Size.{Size}
+use Rattle.layout.specs.declared.Named.{Named}
+use Rattle.layout.specs.declared.Named.the-variants.{Known, Unknown}
+use Rattle.layout.specs.Sizes.{widthIs, nameOf}
+use Rattle.layout.proofs.Sizes.{width-range, known-size, unknown-size}
 use Rattle.record.specs.Quantities.{quantity}
-use Rattle.faults.specs.declared.Summary.{Summary}
-use Rattle.faults.specs.State.{nothing, summaryWith}
+use Rattle.summary.specs.declared.Summary.{Summary}
+use Rattle.summary.specs.State.{nothing, summaryWith}
 use Rattle.faults.proofs.Agreement.{Agrees, start, step, fault-agrees}
 use Rattle.checking.specs.declared.Refusal.{Refusal}
 use Rattle.checking.specs.declared.Checked.{Checked}

@@ -5,11 +5,11 @@ use Rattle.rules.specs.Sheet.{Record, morePollutants, size, most, records}
 use Rattle.accepted.specs.Sheets.{recordAt}
 use Rattle.accepted.proofs.Records.{record-at, length-records}
 use Rattle.accepted.proofs.Faultless.{clean-of}
-use Rattle.record.specs.declared.Size.{Size}
-use Rattle.record.specs.Sizes.{widthIs}
-use Rattle.record.proofs.Sizes.{width-range}
-use Rattle.faults.specs.declared.Summary.{Summary}
-use Rattle.faults.specs.State.{summaryWith, Room}
+use Rattle.layout.specs.declared.Size.{Size}
+use Rattle.layout.specs.Sizes.{widthIs}
+use Rattle.layout.proofs.Sizes.{width-range}
+use Rattle.summary.specs.declared.Summary.{Summary}
+use Rattle.summary.specs.State.{summaryWith, Room}
 use Rattle.faults.specs.Faults.{faultBy}
 use Rattle.faults.proofs.Agreement.{Agrees, step, fault-agrees, counts-fit}
 use Rattle.checking.specs.declared.Checked.the-variants as checked

@@ -8,10 +8,10 @@ use lib.ListN.{length}
 use Rattle.rules.specs.Sheet.{Record, size, most, records}
 use Rattle.rules.specs.Refusals.{Check, accepted, refused, checkFrom, check}
 use Rattle.rules.specs.Sizes.{sized}
-use Rattle.record.specs.declared.Size.{Size}
-use Rattle.record.specs.Sizes.{widthIs}
-use Rattle.faults.specs.declared.Summary.{Summary}
-use Rattle.faults.specs.State.{nothing, summaryWith}
+use Rattle.layout.specs.declared.Size.{Size}
+use Rattle.layout.specs.Sizes.{widthIs}
+use Rattle.summary.specs.declared.Summary.{Summary}
+use Rattle.summary.specs.State.{nothing, summaryWith}
 use Rattle.faults.specs.Faults.{faultBy}
 use Rattle.checking.specs.declared.Checked.{Checked}
 use Rattle.checking.specs.declared.Checked.the-variants as checked

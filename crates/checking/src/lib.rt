@@ -4,14 +4,14 @@ ghost use Prim.Native.Nat.{_+_, _*_};
 ghost use lib.ListN.{length};
 ghost use Rattle.rules.specs.Sheet.{records};
 ghost use Rattle.rules.specs.Refusals.{badLength};
-ghost use Rattle.record.specs.Sizes.{widthIs};
+ghost use Rattle.layout.specs.Sizes.{widthIs};
 ghost use Rattle.checking.specs.declared.Checked.the-variants as checked;
 ghost use Rattle.checking.specs.Check.{checkedFrom, checkedOf, checkedSized, soFar, joinedOf, AfterRanges};
-use faults::Summary;
-use faults::fault::fault_of;
-use record::Named;
-use record::Size;
+use faults::fault_of;
+use layout::Named;
+use layout::Size;
 use record::record_at;
+use summary::Summary;
 
 // Why a sheet is turned down: "number and record counted from 0".
 pub struct Refusal {

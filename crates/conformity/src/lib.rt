@@ -11,8 +11,8 @@ ghost use Rattle.operations.specs.Outcomes.{outcomeIs};
 use checking::Refusal;
 use declared_value::Approval;
 use declared_value::approve;
+use layout::Size;
 use operations::Outcome;
-use record::Size;
 
 // "gets number × 256 + record"
 fn code(outcome: Outcome) -> u32

@@ -14,12 +14,12 @@ use Rattle.sizes.specs.Recast.{recastRecord}
 use Rattle.sizes.proofs.Columns.{own-above}
 use Rattle.sizes.proofs.Mapped.{length-mapped, length-recast, widen-recast, narrow-recast}
 use Rattle.sizes.proofs.Converting.{convert-wide, convert-narrow}
-use Rattle.record.specs.declared.Size.{Size}
-use Rattle.record.specs.declared.Size.the-variants.{Twenty, TwentyEight}
-use Rattle.record.specs.Sizes.{widthIs}
+use Rattle.layout.specs.declared.Size.{Size}
+use Rattle.layout.specs.declared.Size.the-variants.{Twenty, TwentyEight}
+use Rattle.layout.specs.Sizes.{widthIs}
 use Rattle.record.specs.Quantities.{quantity}
-use Rattle.record.proofs.Sizes.{width-range}
-use Rattle.faults.specs.declared.Summary.{Summary}
+use Rattle.layout.proofs.Sizes.{width-range}
+use Rattle.summary.specs.declared.Summary.{Summary}
 use Rattle.checking.specs.Check.{Valid}
 use Rattle.checking.proofs.Laws.{limits-are}
 use Rattle.converting.specs.Recasting.{addedBytes, recast}

@@ -5,8 +5,8 @@ use mathlib.Core.List.{List, _++_}
 use lib.ListN.{length, take, drop}
 use Rattle.rules.specs.Sheet.{pollutants, morePollutants, size}
 use Rattle.sizes.specs.Recast.{recastRecord, mapped}
-use Rattle.record.specs.declared.Size.{Size}
-use Rattle.record.specs.declared.Size.the-variants.{Twenty, TwentyEight}
+use Rattle.layout.specs.declared.Size.{Size}
+use Rattle.layout.specs.declared.Size.the-variants.{Twenty, TwentyEight}
 
 -- the zeros of a record of the other size
 abbrev pub addedBytes : Size → ℕ

@@ -1,4 +1,1 @@
 pub mod Placing
-pub mod Sums
-pub mod Places
-pub mod Going

@@ -1,4 +1,1 @@
 pub mod Decisions
-pub mod Column
-pub mod Fours
-pub mod Ranges

@@ -1,25 +1,11 @@
-// A pollutant's decision, from its column of the sheet: its limit, and its measurements engine after engine to the row that decides.
+// A decision for each pollutant: open, or passed or failed with its engine.
 ghost use mathlib.Core.Path.{_≡_};
 ghost use mathlib.Core.Bool.{cond};
 ghost use mathlib.Core.List.{map};
 ghost use Rattle.rules.specs.Series.{pairOf};
-ghost use Rattle.record.specs.Sizes.{widthIs};
 ghost use Rattle.columns.specs.Columns.{upTo};
 ghost use Rattle.decisions.specs.Decisions.{decisionIs, isDeclared, pairIs};
 ghost use Rattle.decisions.specs.Decisions.{noDecisions, decisionsWith, decisionsIs, declaredIs};
-ghost use Rattle.decisions.specs.Column.{ColumnIs};
-ghost use Rattle.decisions.specs.Ranges.{ColumnRange};
-
-mod count;
-mod fours;
-mod logarithms;
-
-use plan::Plan;
-use record::Size;
-use tables::corrected;
-use tables::in_service;
-use tables::known_deviation;
-use tables::unknown_deviation;
 
 // What is said of a pollutant, with the engine where there is one.
 pub enum Decision {
@@ -164,83 +150,6 @@ impl Decisions {
             pm: pm.up_to(m),
             fifth: fifth.up_to(m),
             sixth: sixth.up_to(m),
-        }
-    }
-}
-
-// The decision of a pollutant after the rows to `rows`, none of which ends the series before its statistics.
-// For `series` alone, with a declared pollutant of a sheet that the check accepts: so it may require.
-pub fn column(
-    size: Size,
-    bytes: &[u8],
-    start: usize,
-    plan: Plan,
-    number: u32,
-    limit: u32,
-    deviation: u32,
-    rows: usize,
-) -> Decision
-    requires { ⌜ ColumnRange (widthIs size) (now bytes) start plan number limit deviation rows ⌝ }
-    ensures { λ d. ⌜ ColumnIs (widthIs size) plan (now (bytes .entry)) number limit deviation rows d ⌝ }
-{
-    // Plan 3 counts the engines over the limit, and the others take logarithms. A table is chosen here, once for a column, and lent whole.
-    match plan {
-        Plan::KnownDeviation => {
-            let table = known_deviation();
-            logarithms::column(
-                size,
-                bytes,
-                start,
-                plan,
-                number,
-                limit,
-                deviation,
-                rows,
-                &table,
-            )
-        }
-        Plan::UnknownDeviation => {
-            let table = unknown_deviation();
-            logarithms::column(
-                size,
-                bytes,
-                start,
-                plan,
-                number,
-                limit,
-                deviation,
-                rows,
-                &table,
-            )
-        }
-        Plan::Attributes => count::column(size, bytes, start, number, limit, rows),
-        Plan::InService => {
-            let table = in_service();
-            logarithms::column(
-                size,
-                bytes,
-                start,
-                plan,
-                number,
-                limit,
-                deviation,
-                rows,
-                &table,
-            )
-        }
-        Plan::Corrected => {
-            let table = corrected();
-            logarithms::column(
-                size,
-                bytes,
-                start,
-                plan,
-                number,
-                limit,
-                deviation,
-                rows,
-                &table,
-            )
         }
     }
 }

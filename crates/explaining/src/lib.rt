@@ -7,10 +7,10 @@ ghost use Rattle.explaining.specs.Explanation.{enginesIn, name, place, e
 use checking::Checked;
 use checking::Refusal;
 use checking::check;
+use layout::Size;
 use lines::Lines;
 use reading::Step;
 use reading::turn_at;
-use record::Size;
 
 // The refusal of a sheet's length, which names no record.
 const LENGTH: u8 = 1;

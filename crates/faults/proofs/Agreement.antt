@@ -11,14 +11,16 @@ use Rattle.accepted.proofs.Faultless.{Clean, clean-join, Faultless, faultless, 
 use Rattle.accepted.proofs.Causes.{plan-append}
 use Rattle.accepted.proofs.Engines.{heading-parts, counts}
 use Rattle.accepted.proofs.ByNumber.{limitOf, InOrder, in-order, declared-one, declared-other, newest-snoc, limit-most}
-use Rattle.record.specs.declared.Size.{Size}
-use Rattle.record.specs.Sizes.{widthIs}
+use Rattle.layout.specs.declared.Size.{Size}
+use Rattle.layout.specs.Sizes.{widthIs}
 use Rattle.record.specs.Quantities.{quantity, quantitiesWith}
-use Rattle.record.proofs.Sizes.{width-range}
-use Rattle.faults.specs.declared.Summary.{Summary}
-use Rattle.faults.specs.State.{nothing, summaryWith, LimitRange, Limits}
-use Rattle.faults.specs.Faults.{misplacesOthers, unusedFromTwelve, badMeasurementBy, badBehind, badCauseBy, badSmallEngineBy, pollutantBy, pollutantFault, engineFault, stopFault, smallEngineFault, faultBy}
-use Rattle.faults.proofs.ZeroBytes.{pollutant-unused, engine-unused, stop-unused, small-engine-unused}
+use Rattle.layout.proofs.Sizes.{width-range}
+use Rattle.summary.specs.declared.Summary.{Summary}
+use Rattle.summary.specs.State.{nothing, summaryWith, misplacesOthers, LimitRange, Limits}
+use Rattle.zeros.specs.Zeros.{unusedFromTwelve}
+use Rattle.small_engines.specs.SmallEngines.{badSmallEngineBy, smallEngineFault}
+use Rattle.faults.specs.Faults.{badMeasurementBy, badBehind, badCauseBy, pollutantBy, pollutantFault, engineFault, stopFault, faultBy}
+use Rattle.zeros.proofs.ZeroBytes.{pollutant-unused, engine-unused, stop-unused, small-engine-unused}
 use Rattle.faults.proofs.Declared.{zero-quantity, quantity-with, order-last, limit-snoc, measurement-agrees, particulate-agrees, gross-agrees}
 
 abbrev pub isEmpty : List Record → Bool

@@ -6,11 +6,12 @@ use Rattle.rules.specs.Sheet.{Record, Pollutant, pollutants, morePollutants, me
 use Rattle.rules.specs.Refusals.{particulateLimit, particulates, badParticulate, badValue, badMeasurement}
 use Rattle.accepted.proofs.ByNumber.{limitOf, InOrder, in-numbers}
 use Rattle.record.specs.declared.Quantities.{Quantities}
-use Rattle.record.specs.declared.Size.{Size}
-use Rattle.record.specs.declared.Size.the-variants.{Twenty, TwentyEight}
-use Rattle.record.specs.Sizes.{widthIs}
+use Rattle.layout.specs.declared.Size.{Size}
+use Rattle.layout.specs.declared.Size.the-variants.{Twenty, TwentyEight}
+use Rattle.layout.specs.Sizes.{widthIs}
 use Rattle.record.specs.Quantities.{quantity, quantitiesWith}
-use Rattle.faults.specs.Faults.{badParticulateBy, badMeasurementBy, badBehind, exceeds, grossBy}
+use Rattle.small_engines.specs.SmallEngines.{badParticulateBy}
+use Rattle.faults.specs.Faults.{badMeasurementBy, badBehind, exceeds, grossBy}
 
 -- ---- limits by number
 

@@ -1,4 +1,2 @@
-pub mod Chains
-pub mod ZeroBytes
 pub mod Declared
 pub mod Agreement

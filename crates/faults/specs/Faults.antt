@@ -2,20 +2,19 @@
 use Prim.Native.Nat.{ℕ, _+_, _/_}
 use mathlib.Core.Bool.{Bool, false, not, _&&_, _||_, cond}
 use lib.Dec.{leb, ltb, eqb}
-use Rattle.rules.specs.Tools.{within, byte, two, four}
+use Rattle.rules.specs.Tools.{within}
 use Rattle.rules.specs.Logarithm.{greatest}
-use Rattle.rules.specs.Sheet.{Record, pollutantKind, engineKind, stopKind, smallEngineKind, kind, number, plan, limit, deviation, cause, measurement, volume, speed, date}
-use Rattle.rules.specs.Refusals.{greatestDeviation, greatestCause, badDate, particulateLimit}
+use Rattle.rules.specs.Sheet.{Record, pollutantKind, engineKind, stopKind, smallEngineKind, kind, number, plan, limit, deviation, cause, measurement}
+use Rattle.rules.specs.Refusals.{greatestDeviation, greatestCause}
 use Rattle.rules.specs.Plans.{knownDeviation, inService, planCount, numberOf}
 use Rattle.record.specs.declared.Quantities.{Quantities}
-use Rattle.record.specs.declared.Size.{Size}
-use Rattle.record.specs.declared.Size.the-variants.{Twenty, TwentyEight}
-use Rattle.record.specs.Sizes.{widthIs}
-use Rattle.faults.specs.declared.Summary.{Summary}
-
--- 3, of another kind than a pollutant: it would be the first record, or stand behind a stop
-abbrev pub misplacesOthers : Summary → Bool
-misplacesOthers s = eqb (s .kind) 0 || eqb (s .kind) stopKind
+use Rattle.layout.specs.declared.Size.{Size}
+use Rattle.layout.specs.declared.Size.the-variants.{Twenty, TwentyEight}
+use Rattle.layout.specs.Sizes.{widthIs}
+use Rattle.zeros.specs.Zeros.{unusedFromTwelve, pollutantUnused, engineUnused, stopUnused}
+use Rattle.summary.specs.declared.Summary.{Summary}
+use Rattle.summary.specs.State.{misplacesOthers}
+use Rattle.small_engines.specs.SmallEngines.{smallEngineFault}
 
 -- 3 to 7 and 12 of a pollutant, by its numbers, where there are w of them
 unfoldable pub pollutantBy : (w : ℕ) → Summary → (number plan limit deviation : ℕ) → (unused : Bool) → ℕ
@@ -26,32 +25,6 @@ pollutantBy w s number plan limit deviation unused =
     (cond (not (within 1 greatest limit)) 6
     (cond (eqb plan (numberOf knownDeviation) && not (within 1 greatestDeviation deviation) || not (eqb plan (numberOf knownDeviation)) && not (eqb deviation 0)) 7
     (cond unused 12 0)))))
-
--- 12, of each kind: the bytes that must be zero, as numbers; the bytes behind the first 20 are those of a record of 28
-abbrev pub unusedBehind : Size → Record → Bool
-unusedBehind Twenty r = false
-unusedBehind TwentyEight r = not (eqb (four r 20) 0) || not (eqb (four r 24) 0)
-
-abbrev pub unusedFromTwelve : Size → Record → Bool
-unusedFromTwelve z r = not (eqb (four r 12) 0) || not (eqb (four r 16) 0) || unusedBehind z r
-
--- of each kind, where `rest` says whether a byte from 12 on is not zero
-abbrev pub pollutantUnused : Record → (rest : Bool) → Bool
-pollutantUnused r rest = not (eqb (byte r 3) 0) || rest
-
-abbrev pub engineUnused : Record → Bool
-engineUnused r = not (eqb (byte r 1) 0)
-
-abbrev pub stopUnused : Record → (rest : Bool) → Bool
-stopUnused r rest =
-    not (eqb (byte r 1) 0)
-    || not (eqb (two r 2) 0)
-    || not (eqb (four r 4) 0)
-    || not (eqb (four r 8) 0)
-    || rest
-
-abbrev pub smallEngineUnused : Record → (rest : Bool) → Bool
-smallEngineUnused r rest = not (eqb (byte r 1) 0) || not (eqb (two r 6) 0) || rest
 
 unfoldable pub pollutantFault : Size → Summary → Record → (rest : Bool) → ℕ
 pollutantFault z s r rest = pollutantBy (widthIs z) s (number r) (plan r) (limit r) (deviation r) (pollutantUnused r rest)
@@ -107,23 +80,6 @@ stopFault s r rest =
     cond (misplacesOthers s) 3
     (cond (eqb (s .plan) (numberOf inService)) 11
     (cond (stopUnused r rest) 12 0))
-
--- 16: behind a pollutant there is no other small engine
-abbrev pub badSmallEngineBy : Summary → Bool
-badSmallEngineBy s = not (eqb (s .kind) pollutantKind) || eqb (s .plan) (numberOf inService)
-
--- 18: a limit of 0 stands for undeclared particulates
-unfoldable pub badParticulateBy : (limit : ℕ) → Record → Bool
-badParticulateBy limit r = not (eqb limit 0) && not (eqb limit (particulateLimit (volume r) (speed r) (date r)))
-
--- 3, 16, 17, 18 and 12 of a small engine
-unfoldable pub smallEngineFault : Summary → Record → (rest : Bool) → ℕ
-smallEngineFault s r rest =
-    cond (misplacesOthers s) 3
-    (cond (badSmallEngineBy s) 16
-    (cond (badDate r) 17
-    (cond (badParticulateBy (s .limits .pm) r) 18
-    (cond (smallEngineUnused r rest) 12 0))))
 
 -- 2, of a record of another kind
 unfoldable pub faultBy : Size → Summary → Record → ℕ

@@ -1,97 +1,238 @@
-// What the records before one say, and the refusal of a record after them.
+// The refusal number of a record, given what the records before it say: the first in the order of the refusals. 0: the record has no fault.
 ghost use mathlib.Core.Path.{_≡_};
-ghost use Rattle.faults.specs.State.{nothing, summaryWith, Room};
-ghost use Rattle.faults.specs.Faults.{misplacesOthers};
+ghost use Rattle.rules.specs.Sheet.{measurement};
+ghost use Rattle.summary.specs.State.{LimitRange, Limits};
+ghost use Rattle.faults.specs.Faults.{badValueBy, badBehind, badMeasurementBy, exceeds, exceedsBehind, grossBy, badCauseBy};
+ghost use Rattle.faults.specs.Faults.{pollutantBy, pollutantFault, engineFault, stopFault, faultBy};
+use layout::Size;
+use numbers::byte_at;
 use plan::Plan;
 use record::ENGINE;
 use record::POLLUTANT;
 use record::Quantities;
 use record::SMALL_ENGINE;
 use record::STOP;
+use record::cause_of;
+use record::deviation_of;
 use record::kind_of;
 use record::limit_of;
+use record::measurement_of;
 use record::number_of;
 use record::plan_of;
+use small_engines::small_engine_fault;
+use summary::Summary;
+use values::GREATEST;
+use zeros::pollutant_unused;
+use zeros::stop_unused;
+use zeros::unused_from_twelve;
 
-pub mod fault;
-mod small_engine;
-mod unused;
+// The greatest deviation of plan 1, and the greatest cause.
+const GREATEST_DEVIATION: u32 = 4_000_000;
 
-// What is kept of the records read so far: all that the refusal of the next one looks back at, and what judging starts from.
-pub struct Summary {
-    // The kind of the last record, 0 where there is none.
-    pub kind: u32,
-    // The plan of the pollutants, 0 where there is none.
-    pub plan: u32,
-    // "The last row belongs to the plan". Kept, so that it is not found anew for each engine; 0 where there is no plan.
-    pub last_row: u32,
-    // The number of the last pollutant, 0 where there is none.
-    pub number: u32,
-    // 0 where the pollutant is not declared.
-    pub limits: Quantities,
-    // How many pollutants are declared.
-    pub pollutants: u32,
-    // How many records stand before the first engine: the pollutants, and a small engine if there is one.
-    pub head: u32,
-    // How many engines there are.
-    pub engines: u32,
+const GREATEST_CAUSE: u32 = 65_534;
+
+// The refusal of a pollutant, by its numbers and by whether another byte of it is not zero.
+fn pollutant_by(
+    pollutants: u32,
+    s: Summary,
+    number: u32,
+    plan: u32,
+    limit: u32,
+    deviation: u32,
+    unused: bool,
+) -> u8
+    ensures { λ n. ⌜ n ≡ pollutantBy pollutants s number plan limit deviation unused ⌝ }
+{
+    // "3, .. kind 1 after another kind"
+    if POLLUTANT < s.kind {
+        return 3;
+    }
+    // "4, pollutant number not 1 to 4 or not above the one before"; 02, F-10: "pollutant numbers run to 6"
+    if !((1 <= number) & (number <= pollutants)) | (number <= s.number) {
+        return 4;
+    }
+    // "5, plan not 1 to 4 or unlike the first"; 02, F-6: "Refusal 5 admits plan 5."
+    if !((1 <= plan) & (plan <= Plan::CORRECTED)) | ((s.kind != 0) & (plan != s.plan)) {
+        return 5;
+    }
+    // "6, limit out of range"
+    if !((1 <= limit) & (limit <= GREATEST)) {
+        return 6;
+    }
+    // "7, deviation": "1 to 4,000,000 in plan 1, zero otherwise"
+    let known = plan == Plan::KNOWN_DEVIATION;
+    if (known & !((1 <= deviation) & (deviation <= GREATEST_DEVIATION)))
+        | (!known & (deviation != 0))
+    {
+        return 7;
+    }
+    // "12, another byte that must be zero"
+    if unused {
+        return 12;
+    }
+    0
 }
 
-impl Summary {
-    // No record yet.
-    pub fn nothing() -> Summary
-        ensures { λ s. ⌜ s ≡ nothing ⌝ }
-    {
-        let none = Quantities {
-            co: 0,
-            hc: 0,
-            nox: 0,
-            pm: 0,
-            fifth: 0,
-            sixth: 0,
-        };
-        Summary {
-            kind: 0,
-            plan: 0,
-            last_row: 0,
-            number: 0,
-            limits: none,
-            pollutants: 0,
-            head: 0,
-            engines: 0,
-        }
-    }
+// The refusal of a pollutant.
+fn pollutant_fault(size: Size, s: Summary, r: &[u8], rest: bool) -> u8
+    ensures { λ n. ⌜ n ≡ pollutantFault size s (now (r .entry)) rest ⌝ }
+{
+    pollutant_by(
+        size.pollutants(),
+        s,
+        number_of(r),
+        plan_of(r),
+        limit_of(r),
+        deviation_of(r),
+        pollutant_unused(r, rest),
+    )
+}
 
-    // What is said once the record r, which has no fault, is read too.
-    // For `checking` alone, whose loop reads at most 40 records after at most 40, so that no count overflows: so it may require.
-    pub fn with(mut self, r: &[u8]) -> Summary
-        requires { ⌜ Room self ⌝ }
-        ensures { λ t. ⌜ t ≡ summaryWith self (now (r .entry)) ⌝ }
-    {
-        let kind = kind_of(r);
-        self.kind = kind;
-        if kind == ENGINE {
-            self.engines = self.engines + 1;
-        } else if kind == POLLUTANT {
-            let plan = plan_of(r);
-            let number = number_of(r);
-            let limits = self.limits;
-            self.pollutants = self.pollutants + 1;
-            self.head = self.head + 1;
-            self.plan = plan;
-            self.last_row = Plan::of(plan).last_row();
-            self.number = number;
-            self.limits = limits.with(number, limit_of(r));
-        } else if kind == SMALL_ENGINE {
-            self.head = self.head + 1;
-        }
-        self
+// 8, of pollutant p, whose limit is 0 where it is not declared.
+fn bad_value(limit: u32, r: &[u8], p: u32) -> bool
+    ensures { λ b. ⌜ b ≡ badValueBy limit (measurement (now (r .entry)) p) ⌝ }
+{
+    let x = measurement_of(r, p);
+    if limit == 0 {
+        x != 0
+    } else {
+        !((1 <= x) & (x <= GREATEST))
     }
+}
 
-    // "3, first record not kind 1 .. or anything after kind 3": whether no record that is not a pollutant may follow.
-    pub(crate) fn misplaces_others(self) -> bool
-        ensures { λ b. ⌜ b ≡ misplacesOthers self ⌝ }
-    {
-        (self.kind == 0) | (self.kind == STOP)
+// "8, measurement, also one not zero of an undeclared pollutant", of pollutants 1 to 4.
+fn bad_measurement(limits: Quantities, r: &[u8]) -> bool
+    ensures { λ b. ⌜ b ≡ badMeasurementBy limits (now (r .entry)) ⌝ }
+{
+    bad_value(limits.co, r, 1)
+        | bad_value(limits.hc, r, 2)
+        | bad_value(limits.nox, r, 3)
+        | bad_value(limits.pm, r, 4)
+}
+
+// The same of pollutants 5 and 6, which a record of 28 bytes alone has measurements of.
+fn bad_behind(size: Size, limits: Quantities, r: &[u8]) -> bool
+    ensures { λ b. ⌜ b ≡ badBehind size limits (now (r .entry)) ⌝ }
+{
+    match size {
+        Size::Twenty => false,
+        Size::TwentyEight => bad_value(limits.fifth, r, 5) | bad_value(limits.sixth, r, 6),
+    }
+}
+
+// "2x > 3L", of a declared pollutant p: x is above L and half of L, rounded down, which stays within 32 bits.
+fn exceeds(limit: u32, r: &[u8], p: u32) -> bool
+    requires { ⌜ LimitRange limit ⌝ }
+    ensures { λ b. ⌜ b ≡ exceeds limit (measurement (now (r .entry)) p) ⌝ }
+{
+    (limit != 0) & (limit + limit / 2 < measurement_of(r, p))
+}
+
+// The same for pollutant 5 or 6.
+fn exceeds_behind(size: Size, limits: Quantities, r: &[u8]) -> bool
+    requires { ⌜ Limits limits ⌝ }
+    ensures { λ b. ⌜ b ≡ exceedsBehind size limits (now (r .entry)) ⌝ }
+{
+    match size {
+        Size::Twenty => false,
+        Size::TwentyEight => exceeds(limits.fifth, r, 5) | exceeds(limits.sixth, r, 6),
+    }
+}
+
+// "A gross emitter is a vehicle with 2x > 3L for some pollutant"
+fn is_gross(size: Size, limits: Quantities, r: &[u8]) -> bool
+    requires { ⌜ Limits limits ⌝ }
+    ensures { λ b. ⌜ b ≡ grossBy size limits (now (r .entry)) ⌝ }
+{
+    exceeds(limits.co, r, 1)
+        | exceeds(limits.hc, r, 2)
+        | exceeds(limits.nox, r, 3)
+        | exceeds(limits.pm, r, 4)
+        | exceeds_behind(size, limits, r)
+}
+
+// "9, cause": "In plan 4 its cause is 1 to 65,534, any other vehicle's is 0; in plans 1 to 3 cause is 0.", and in plan 5.
+fn bad_cause(size: Size, s: Summary, r: &[u8]) -> bool
+    requires { ⌜ Limits (s .limits) ⌝ }
+    ensures { λ b. ⌜ b ≡ badCauseBy size s (now (r .entry)) ⌝ }
+{
+    let limits = s.limits;
+    let cause = cause_of(r);
+    if s.plan != Plan::IN_SERVICE {
+        return cause != 0;
+    }
+    if is_gross(size, limits, r) {
+        !((1 <= cause) & (cause <= GREATEST_CAUSE))
+    } else {
+        cause != 0
+    }
+}
+
+// The refusal of an engine.
+fn engine_fault(size: Size, s: Summary, r: &[u8]) -> u8
+    requires { ⌜ Limits (s .limits) ⌝ }
+    ensures { λ n. ⌜ n ≡ engineFault size s (now (r .entry)) ⌝ }
+{
+    let limits = s.limits;
+    if s.misplaces_others() {
+        return 3;
+    }
+    if bad_measurement(limits, r) {
+        return 8;
+    }
+    if bad_behind(size, limits, r) {
+        return 8;
+    }
+    if bad_cause(size, s, r) {
+        return 9;
+    }
+    // "10, more engines than the last row"
+    if s.last_row <= s.engines {
+        return 10;
+    }
+    // "12, another byte that must be zero": "byte 1 zero"
+    if byte_at(r, 1) != 0 {
+        return 12;
+    }
+    0
+}
+
+// The refusal of a stop.
+fn stop_fault(s: Summary, r: &[u8], rest: bool) -> u8
+    ensures { λ n. ⌜ n ≡ stopFault s (now (r .entry)) rest ⌝ }
+{
+    if s.misplaces_others() {
+        return 3;
+    }
+    // "11, stop in plan 4"
+    if s.plan == Plan::IN_SERVICE {
+        return 11;
+    }
+    if stop_unused(r, rest) {
+        return 12;
+    }
+    0
+}
+
+// The refusal number of the record r after those of which s tells, 0 where it has no fault; "2, kind not 1 to 3", and 02, F-1: "record kind 5".
+// Engines are asked for first, since most records are engines.
+// For `checking` alone, whose loop reads on only behind limits that are in range: so it may require.
+pub fn fault_of(size: Size, s: Summary, r: &[u8]) -> u8
+    requires { ⌜ Limits (s .limits) ⌝ }
+    ensures { λ n. ⌜ n ≡ faultBy size s (now (r .entry)) ⌝ }
+{
+    let kind = kind_of(r);
+    if kind == ENGINE {
+        return engine_fault(size, s, r);
+    }
+    let rest = unused_from_twelve(size, r);
+    if kind == POLLUTANT {
+        pollutant_fault(size, s, r, rest)
+    } else if kind == STOP {
+        stop_fault(s, r, rest)
+    } else if kind == SMALL_ENGINE {
+        small_engine_fault(s, r, rest)
+    } else {
+        2
     }
 }

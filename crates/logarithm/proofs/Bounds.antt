@@ -26,7 +26,7 @@ g-lt q m = cases (lt-or-ge m 1) (lt-or-ge greatest m)
         let e : exponent m + 1 ≤ 24 = omega (arith, digits-rise 32 m greatest l) in
         rw (g-in q m p l) (omega (arith, bits-lt q (exponent m) (m * 2 ^ (31 - exponent m)), mul-le-mul-right (2 ^ q) e))
 
--- as a number, with which the ranges of `rows` and `decisions` are stated
+-- as a number, with which the ranges of `rows` and `statistics` are stated
 pub g-fits : (m : ℕ) → g squarings m < 24 * 2 ^ 20
 g-fits m = omega (arith, g-lt squarings m, pow-mono {i = squarings} {j = 20} (omega arith))
 

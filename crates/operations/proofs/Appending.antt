@@ -5,12 +5,12 @@ use Rattle.rules.specs.Sheet.{size, records}
 use Rattle.rules.specs.Refusals.{Check, accepted, refused, check}
 use Rattle.rules.specs.Sizes.{appendSized, appendedSized}
 use Rattle.rules.specs.Operations.{andThen, onSuccess, noRoom, joined, append, appended}
-use Rattle.record.specs.declared.Size.{Size}
-use Rattle.record.specs.declared.Named.{Named}
-use Rattle.record.specs.declared.Named.the-variants.{Known, Unknown}
-use Rattle.record.specs.Sizes.{widthIs, nameOf}
-use Rattle.record.proofs.Sizes.{known-size, unknown-size}
-use Rattle.faults.specs.State.{nothing}
+use Rattle.layout.specs.declared.Size.{Size}
+use Rattle.layout.specs.declared.Named.{Named}
+use Rattle.layout.specs.declared.Named.the-variants.{Known, Unknown}
+use Rattle.layout.specs.Sizes.{widthIs, nameOf}
+use Rattle.layout.proofs.Sizes.{known-size, unknown-size}
+use Rattle.summary.specs.State.{nothing}
 use Rattle.checking.specs.declared.Checked.{Checked}
 use Rattle.checking.specs.declared.Checked.the-variants as checked
 use Rattle.checking.specs.Check.{summary, checkedBy, checkedOf, soFar, joinedBy, joinedOf}

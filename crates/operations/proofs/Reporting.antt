@@ -10,16 +10,17 @@ use Rattle.rules.specs.Operations.{judge, pairBytes, reportBytes, report, repor
 use Rattle.answers.proofs.Answers.{checkIn, judge-check, judge-accepted}
 use Rattle.answers.proofs.Ranges.{JudgementIn, judgement-range}
 use Rattle.sizes.proofs.Columns.{report-columns}
-use Rattle.record.specs.declared.Size.{Size}
-use Rattle.record.specs.declared.Size.the-variants.{Twenty, TwentyEight}
-use Rattle.record.specs.declared.Named.{Named}
-use Rattle.record.specs.declared.Named.the-variants.{Known, Unknown}
-use Rattle.record.specs.Sizes.{widthIs, nameOf}
-use Rattle.record.proofs.Sizes.{known-size, unknown-size}
-use Rattle.series.specs.declared.Judgement.{Judgement}
+use Rattle.layout.specs.declared.Size.{Size}
+use Rattle.layout.specs.declared.Size.the-variants.{Twenty, TwentyEight}
+use Rattle.layout.specs.declared.Named.{Named}
+use Rattle.layout.specs.declared.Named.the-variants.{Known, Unknown}
+use Rattle.layout.specs.Sizes.{widthIs, nameOf}
+use Rattle.layout.proofs.Sizes.{known-size, unknown-size}
+use Rattle.tally.specs.declared.Judgement.{Judgement}
 use Rattle.series.specs.declared.Judged.{Judged}
 use Rattle.series.specs.declared.Judged.the-variants as judged
-use Rattle.series.specs.Answers.{judgementIs, judgedIs, sixPairs}
+use Rattle.tally.specs.Judgements.{judgementIs, sixPairs}
+use Rattle.series.specs.Answers.{judgedIs}
 use Rattle.operations.specs.Outcomes.{judgedCheck}
 
 judged-check : (j : Judged) → judgedCheck j ≡ checkIn (judgedIs j)

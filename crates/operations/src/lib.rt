@@ -4,18 +4,18 @@ ghost use Rattle.rules.specs.Logarithm.{squarings};
 ghost use Rattle.rules.specs.Sheet.{morePollutants};
 ghost use Rattle.rules.specs.Operations as rules;
 ghost use Rattle.rules.specs.Sizes.{appendSized, appendedSized, reportSized, reportedSized};
-ghost use Rattle.series.specs.Answers.{judgementIs};
+ghost use Rattle.tally.specs.Judgements.{judgementIs};
 ghost use Rattle.operations.specs.Outcomes.{outcomeIs, checkIs, judgedCheck};
 use checking::Checked;
 use checking::Refusal;
 use checking::check_joined;
 use decisions::Decisions;
-use record::Named;
-use record::Size;
+use layout::Named;
+use layout::Size;
 use series::Judged;
-use series::Judgement;
-use series::Numbers;
 use series::judge_sheet;
+use tally::Judgement;
+use tally::Numbers;
 
 // What append and report come to, and the converter: done, or the refusal that they return.
 pub enum Outcome {

@@ -11,8 +11,8 @@ use Rattle.answers.proofs.Ranges.{JudgementIn, judgement-range}
 use Rattle.lines.specs.declared.Lines.{Lines}
 use Rattle.lines.specs.Writing.{Adds}
 use Rattle.lines.proofs.Written.{at-most}
-use Rattle.series.specs.declared.Judgement.{Judgement}
-use Rattle.series.specs.Answers.{judgementIs, sixPairs, DeclaresAs}
+use Rattle.tally.specs.declared.Judgement.{Judgement}
+use Rattle.tally.specs.Judgements.{judgementIs, sixPairs, DeclaresAs}
 use Rattle.printing.specs.Judgements.{judgementLines}
 
 -- "3 referred"

@@ -5,9 +5,9 @@ use Rattle.rules.specs.Series.{pairOf}
 use Rattle.rules.specs.Printed.{decimal, line, verdictWord, pollutantLine}
 use Rattle.decisions.specs.declared.Decision.{Decision}
 use Rattle.decisions.specs.Decisions.{decisionIs, isDeclared}
-use Rattle.series.specs.declared.Numbers.{Numbers}
-use Rattle.series.specs.declared.Judgement.{Judgement}
-use Rattle.series.specs.Answers.{numbersOf}
+use Rattle.tally.specs.declared.Numbers.{Numbers}
+use Rattle.tally.specs.declared.Judgement.{Judgement}
+use Rattle.tally.specs.Judgements.{numbersOf}
 
 -- "Line 1: verdict word .., engine, ground"
 abbrev pub firstLine : Numbers → List ℕ

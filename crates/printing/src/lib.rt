@@ -10,12 +10,12 @@ ghost use Rattle.lines.specs.Writing.{room, nothing, Adds, Written};
 ghost use Rattle.printing.specs.Judgements.{firstLine, decisionLine, judgementLines};
 use decisions::Decision;
 use decisions::Decisions;
+use layout::Size;
 use lines::Lines;
-use record::Size;
 use series::Judged;
-use series::Judgement;
-use series::Numbers;
 use series::judge;
+use tally::Judgement;
+use tally::Numbers;
 
 // A line of a word and two numbers.
 fn line_of(word: &[u8], a: u8, b: u8) -> Lines

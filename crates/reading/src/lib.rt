@@ -2,13 +2,13 @@
 // Each takes the struct apart and leaves the work to a function on size, slice and number.
 ghost use mathlib.Core.Path.{_≡_};
 ghost use Rattle.reading.specs.Steps.{wholeRecords, stepAt, leftAt, nextAt, reader, advanced, turnAt};
+use layout::Named;
+use layout::Size;
 use record::ENGINE;
-use record::Named;
 use record::POLLUTANT;
 use record::Quantities;
 use record::SMALL_ENGINE;
 use record::STOP;
-use record::Size;
 use record::cause_of;
 use record::deviation_of;
 use record::kind_of;

@@ -1,104 +1,21 @@
 // The fields of a record, by document 01's "The sheet". A byte past the record's end counts as 0.
 ghost use mathlib.Core.Path.{_≡_};
 ghost use mathlib.Core.Bool.{cond};
-ghost use Prim.Native.Nat.{_+_, _*_, _/_, _%_, _<_};
+ghost use Prim.Native.Nat.{_<_};
 ghost use lib.ListN.{length};
-ghost use Rattle.rules.specs.Tools.{byte, two, four};
-ghost use Rattle.rules.specs.Sheet.{kind, number, plan, limit, deviation, cause, measurement, size, most};
-ghost use Rattle.record.specs.Sizes.{widthIs, nameOf};
+ghost use Rattle.rules.specs.Sheet.{kind, number, plan, limit, deviation, cause, measurement};
 ghost use Rattle.accepted.specs.Sheets.{recordAt};
-ghost use Rattle.record.specs.Ranges.{RecordRange, MeasurementRange, ByteRange, PlaceRange};
+ghost use Rattle.layout.specs.Sizes.{widthIs};
+ghost use Rattle.record.specs.Ranges.{RecordRange, MeasurementRange};
 ghost use Rattle.record.specs.Quantities.{quantitiesWith};
+use layout::Size;
+use numbers::byte_at;
+use numbers::u16_at;
+use numbers::u16_present;
+use numbers::u32_at;
+use numbers::u32_present;
 
 pub mod small_engine;
-
-// The size of a record, 20 or 28 bytes: by it a sheet is cut into records, and it tells how many pollutants there may be.
-pub enum Size {
-    Twenty,
-    TwentyEight,
-}
-
-// "Callers name the size" (02, F-10), and may name one that there is not.
-pub enum Named {
-    Known(Size),
-    Unknown,
-}
-
-impl Size {
-    // "Records of 20 bytes", and 02, F-10: "A 28-byte record has six measurements".
-    pub const TWENTY: usize = 20;
-
-    pub const TWENTY_EIGHT: usize = 28;
-
-    // The bytes of the longest sheet. 02, F-1: "A sheet may hold 38 records.", and F-10: "two records more than the old maximum".
-    pub const LONGEST_OF_TWENTY: usize = 38 * Size::TWENTY;
-
-    pub const LONGEST_OF_TWENTY_EIGHT: usize = 40 * Size::TWENTY_EIGHT;
-
-    // The size of so many bytes.
-    pub fn of(bytes: usize) -> Named
-        ensures { λ n. ⌜ n ≡ nameOf bytes ⌝ }
-    {
-        if bytes == Size::TWENTY {
-            Named::Known(Size::Twenty)
-        } else if bytes == Size::TWENTY_EIGHT {
-            Named::Known(Size::TwentyEight)
-        } else {
-            Named::Unknown
-        }
-    }
-
-    // The bytes of a record.
-    pub fn bytes(self) -> usize
-        ensures { λ n. ⌜ n ≡ size (widthIs self) ⌝ }
-    {
-        match self {
-            Size::Twenty => Size::TWENTY,
-            Size::TwentyEight => Size::TWENTY_EIGHT,
-        }
-    }
-
-    // The bytes of the longest sheet.
-    pub fn longest(self) -> usize
-        ensures { λ n. ⌜ n ≡ most (widthIs self) * size (widthIs self) ⌝ }
-    {
-        match self {
-            Size::Twenty => Size::LONGEST_OF_TWENTY,
-            Size::TwentyEight => Size::LONGEST_OF_TWENTY_EIGHT,
-        }
-    }
-
-    // The pollutants that a record has measurements of.
-    pub fn pollutants(self) -> u32
-        ensures { λ n. ⌜ n ≡ widthIs self ⌝ }
-    {
-        match self {
-            Size::Twenty => 4,
-            Size::TwentyEight => 6,
-        }
-    }
-
-    // How many whole records so many bytes are. Each division is by a number of the program: by one that is not known beforehand it
-    // would take longer than a record's check.
-    pub fn records_in(self, bytes: usize) -> usize
-        ensures { λ n. ⌜ n ≡ bytes / size (widthIs self) ⌝ }
-    {
-        match self {
-            Size::Twenty => bytes / Size::TWENTY,
-            Size::TwentyEight => bytes / Size::TWENTY_EIGHT,
-        }
-    }
-
-    // How many bytes are left behind the whole records.
-    pub fn left_over(self, bytes: usize) -> usize
-        ensures { λ n. ⌜ n ≡ bytes % size (widthIs self) ⌝ }
-    {
-        match self {
-            Size::Twenty => bytes % Size::TWENTY,
-            Size::TwentyEight => bytes % Size::TWENTY_EIGHT,
-        }
-    }
-}
 
 // The kinds of a record: a pollutant, an engine or vehicle, testing stopped by the manufacturer, and what makes an engine a small one.
 pub const POLLUTANT: u32 = 1;
@@ -141,7 +58,7 @@ impl Quantities {
     }
 }
 
-// Record k of a sheet of records of that size. For `checking`, `causes`, `decisions`, `series` and `reading`, which ask for records below the sheet's end: so it may require.
+// Record k of a sheet of records of that size. For `checking`, `reading`, `causes`, `tally` and `converting`, which ask for records below the sheet's end: so it may require.
 pub fn record_at(size: Size, sheet: &[u8], k: usize) -> &[u8]
     requires { ⌜ RecordRange (widthIs size) k (length (now sheet)) ⌝ }
     ensures { λ r. ⌜ now r ≡ recordAt (widthIs size) (now (sheet .entry)) k ⌝ }
@@ -149,63 +66,6 @@ pub fn record_at(size: Size, sheet: &[u8], k: usize) -> &[u8]
     let bytes = size.bytes();
     let start = bytes * k;
     &sheet[start..start + bytes]
-}
-
-// Byte i of bytes that have it.
-fn present(r: &[u8], i: usize) -> u32
-    requires { ⌜ ByteRange i 1 (length (now r)) ⌝ }
-    ensures { λ n. ⌜ (n ≡ byte (now (r .entry)) i) × (n < 256) ⌝ }
-{
-    r[i] as u32
-}
-
-// The number in bytes i and i + 1 of bytes that have them.
-fn u16_present(r: &[u8], i: usize) -> u32
-    requires { ⌜ ByteRange i 2 (length (now r)) ⌝ }
-    ensures { λ n. ⌜ (n ≡ two (now (r .entry)) i) × (n < 65536) ⌝ }
-{
-    present(r, i) + 256 * present(r, i + 1)
-}
-
-// The number in the four bytes from i on, of bytes that have them. For this crate and `decisions`, whose place runs down a column: so it may require.
-pub fn u32_present(r: &[u8], i: usize) -> u32
-    requires { ⌜ ByteRange i 4 (length (now r)) ⌝ }
-    ensures { λ n. ⌜ n ≡ four (now (r .entry)) i ⌝ }
-{
-    u16_present(r, i) + 65536 * u16_present(r, i + 2)
-}
-
-// Byte i of a record, for the fields of one byte and for the bytes that must be zero.
-pub fn byte_at(r: &[u8], i: usize) -> u32
-    ensures { λ n. ⌜ (n ≡ byte (now (r .entry)) i) × (n < 256) ⌝ }
-{
-    if i < r.len() { present(r, i) } else { 0 }
-}
-
-// The number in bytes i and i + 1. One question for both, so that they are read together.
-// For this crate and `faults`, with places far below the greatest, so that i + 1 is a place too: so it may require.
-pub fn u16_at(r: &[u8], i: usize) -> u32
-    requires { ⌜ PlaceRange i 41 ⌝ }
-    ensures { λ n. ⌜ (n ≡ two (now (r .entry)) i) × (n < 65536) ⌝ }
-{
-    if i + 1 < r.len() {
-        u16_present(r, i)
-    } else {
-        byte_at(r, i) + 256 * byte_at(r, i + 1)
-    }
-}
-
-// The number in the four bytes from i on. One question for all of them, so that they are read together.
-// For this crate and `faults`, with places far below the greatest, so that i + 3 is a place too: so it may require.
-pub fn u32_at(r: &[u8], i: usize) -> u32
-    requires { ⌜ PlaceRange i 40 ⌝ }
-    ensures { λ n. ⌜ n ≡ four (now (r .entry)) i ⌝ }
-{
-    if i + 3 < r.len() {
-        u32_present(r, i)
-    } else {
-        u16_at(r, i) + 65536 * u16_at(r, i + 2)
-    }
 }
 
 // "Byte 0 is the kind."
@@ -258,7 +118,7 @@ pub fn measurement_of(r: &[u8], p: u32) -> u32
 }
 
 // The measurement of pollutant p in record k of a sheet, where the sheet lies: a column is read record after record, and no record is asked how long it is.
-// For `decisions` alone, which asks for engines of an accepted sheet: so it may require.
+// For `statistics` alone, which asks for engines of an accepted sheet: so it may require.
 pub fn measurement_at(size: Size, sheet: &[u8], k: usize, p: u32) -> u32
     requires { ⌜ MeasurementRange (widthIs size) k p (length (now sheet)) ⌝ }
     ensures { λ n. ⌜ n ≡ measurement (recordAt (widthIs size) (now (sheet .entry)) k) p ⌝ }
@@ -266,7 +126,7 @@ pub fn measurement_at(size: Size, sheet: &[u8], k: usize, p: u32) -> u32
     u32_present(sheet, size.bytes() * k + 4 * (p as usize))
 }
 
-// The cause in record k of a sheet, likewise. For `decisions` alone: so it may require.
+// The cause in record k of a sheet, likewise. For `statistics` alone: so it may require.
 pub fn cause_at(size: Size, sheet: &[u8], k: usize) -> u32
     requires { ⌜ RecordRange (widthIs size) k (length (now sheet)) ⌝ }
     ensures { λ n. ⌜ (n ≡ cause (recordAt (widthIs size) (now (sheet .entry)) k)) × (n < 65536) ⌝ }

@@ -2,8 +2,8 @@
 ghost use mathlib.Core.Path.{_≡_};
 ghost use Prim.Native.Nat.{_<_};
 ghost use Rattle.rules.specs.Sheet.{volume, speed, date};
-use crate::u16_at;
-use crate::u32_at;
+use numbers::u16_at;
+use numbers::u32_at;
 
 // "bytes 2-3 swept volume per cylinder in cm³"
 pub fn volume_of(r: &[u8]) -> u32

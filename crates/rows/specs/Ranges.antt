@@ -1,4 +1,4 @@
--- What the crate `decisions` keeps the numbers of a row within.
+-- What the crate `statistics` keeps the numbers of a row within.
 use mathlib.Core.Path.{_≡_}
 use mathlib.Core.Bool.{true}
 use Prim.Native.Nat.{ℕ, _≤_, _<_}

@@ -31,7 +31,7 @@ const LOG_OF_TWO: u64 = 693147181;
 // Plan 1, known deviation: "Pass if T × 693,147,181 > A × t × ..; fail if less than the same with B."; 02, F-9: "1,048,576 in g itself, in plan 1".
 // `added` is the sum of the measurements' logarithms and `level` the limit's logarithm, so T is n × level − added; `table` is the plan's, lent.
 // Each term that document 01 has with a minus stands on the other side, so that all is unsigned.
-// For `decisions` alone, with sums over the engines of an accepted sheet: so it may require.
+// For `statistics` alone, with sums over the engines of an accepted sheet: so it may require.
 pub fn known_row(n: u64, table: &[[i32; 2]], added: u64, level: u64, deviation: u64) -> Row
     requires { ⌜ KnownRanges n added level deviation ⌝ }
     requires { ⌜ Lent rules.knownDeviation (now table) ⌝ }
@@ -67,7 +67,7 @@ pub fn known_row(n: u64, table: &[[i32; 2]], added: u64, level: u64, deviation: 
 // A at or above 0 is asked for first. In what it leaves, as in a row with A below 0, a D above 0 does not pass; and a D of 0 or below, which
 // only A below 0 leaves, can fail by B in the last row alone: so one comparison decides. D's sign chooses between numbers and not between
 // branches, because the processor guesses such a branch wrongly.
-// For `decisions` alone, with sums over the engines of an accepted sheet: so it may require.
+// For `statistics` alone, with sums over the engines of an accepted sheet: so it may require.
 pub fn root_row(plan: Plan, n: u64, table: &[[i32; 2]], added: u64, taken: u64, spread: u64) -> Row
     requires { ⌜ RootRanges (planIs plan) n added taken ⌝ }
     requires { ⌜ Lent (planIs plan) (now table) ⌝ }
@@ -145,7 +145,7 @@ fn chosen(test: bool, x: u64, y: u64) -> u64
 }
 
 // Plan 3, attributes: `over` is c, the number of engines over the limit; `pass` and `fail` are the plan's columns, lent.
-// For `decisions` alone, with a row of an accepted sheet: so it may require.
+// For `statistics` alone, with a row of an accepted sheet: so it may require.
 pub fn attributes_row(n: u64, pass: &[u8; 16], fail: &[u8; 17], over: u8) -> Row
     requires { ⌜ RowRange n ⌝ }
     requires { ⌜ PassNumbers (now pass) ⌝ }

@@ -1,90 +1,33 @@
--- The answers for bytes: judging and evidence, from the tally of an accepted sheet's columns or from its refusal.
-use Rattle.arithmetic.proofs.Basics.{ℕ, _+_, _-_, _*_, _≤_, le-trans, mul-le-mul, mul-le-mul-left, arith, _≡_, refl, sym, ap, _∙_, true, false, _||_, List, [], map, eqb, length, take}
+-- The answers for bytes: judging and evidence, from the judgement of an accepted sheet or from its refusal.
+use Rattle.arithmetic.proofs.Basics.{ℕ, _+_, _-_, _*_, _≤_, le-trans, mul-le-mul, mul-le-mul-left, arith, _≡_, refl, sym, ap, _∙_, true, false, _||_, List, [], eqb, length, take}
 use Rattle.rules.specs.Logarithm.{squarings}
-use Rattle.rules.specs.Sheet.{pollutants, morePollutants, size, most, records, stopKind}
-use Rattle.rules.specs.Plans.{planOf}
+use Rattle.rules.specs.Sheet.{morePollutants, size, most, records}
 use Rattle.rules.specs.Series as rules
-use Rattle.rules.specs.Refusals.{Check, check, accepted, refused}
+use Rattle.rules.specs.Refusals.{Check, check, refused}
 use Rattle.rules.specs.Operations.{judgeBy, judge, evidenceBy, evidence}
 use Rattle.rules.specs.Sizes.{width, checkSized, judgeSized, evidenceSized, openPairs}
-use Rattle.accepted.specs.Sheets.{pollutantsIn, enginesIn}
+use Rattle.accepted.specs.Sheets.{enginesIn}
 use Rattle.accepted.proofs.Faultless.{sound}
-use Rattle.accepted.proofs.Sheets.{inside, rows-fit, last-most}
+use Rattle.accepted.proofs.Sheets.{inside}
 use Rattle.answers.proofs.Answers.{engineIn}
 use Rattle.answers.proofs.Answers as answers
 use Rattle.answers.proofs.Ranges.{engine-within}
-use Rattle.sizes.proofs.Columns.{judge-columns, own-above}
-use Rattle.record.specs.declared.Size.{Size}
-use Rattle.record.specs.declared.Size.the-variants.{Twenty, TwentyEight}
-use Rattle.record.specs.declared.Named.{Named}
-use Rattle.record.specs.declared.Named.the-variants.{Known, Unknown}
-use Rattle.record.specs.Sizes.{widthIs, nameOf}
-use Rattle.record.proofs.Sizes.{width-range, known-size, known-width, unknown-size}
-use Rattle.faults.specs.declared.Summary.{Summary}
+use Rattle.layout.specs.declared.Size.{Size}
+use Rattle.layout.specs.declared.Named.{Named}
+use Rattle.layout.specs.declared.Named.the-variants.{Known, Unknown}
+use Rattle.layout.specs.Sizes.{widthIs, nameOf}
+use Rattle.layout.proofs.Sizes.{width-range, known-size, known-width, unknown-size}
+use Rattle.summary.specs.declared.Summary.{Summary}
 use Rattle.checking.specs.declared.Refusal.{Refusal}
 use Rattle.checking.specs.declared.Checked.{Checked}
 use Rattle.checking.specs.declared.Checked.the-variants as checked
 use Rattle.checking.specs.Check.{checkedOf, Valid}
 use Rattle.checking.proofs.Laws as laws
-use Rattle.columns.specs.Columns.{upTo}
-use Rattle.columns.specs.Tally.{tallied, judgeByTally}
-use Rattle.columns.proofs.Gates.{gate-most}
-use Rattle.columns.proofs.Tally.{tally-end}
-use Rattle.columns.proofs.Marks.{marked-end}
-use Rattle.columns.proofs.Sheets.{sheet-by-tally, declared-marks}
-use Rattle.causes.specs.declared.Gate.{Gate}
-use Rattle.causes.specs.Causes.{gateIs, beforeIn}
-use Rattle.causes.specs.Ranges.{GateRange}
-use Rattle.plan.specs.declared.Plan.{Plan}
-use Rattle.plan.specs.Plan.{planIs}
-use Rattle.decisions.specs.declared.Decisions.{Decisions}
-use Rattle.decisions.specs.Decisions.{decisionsIs, declaredIs}
-use Rattle.series.specs.declared.Verdict.{Verdict}
-use Rattle.series.specs.declared.Numbers.{Numbers}
-use Rattle.series.specs.declared.Judgement.{Judgement}
+use Rattle.tally.specs.declared.Numbers.{Numbers}
+use Rattle.tally.specs.declared.Judgement.{Judgement}
 use Rattle.series.specs.declared.Judged.{Judged}
-use Rattle.series.specs.declared.tally.Tally.{Tally}
-use Rattle.series.specs.Answers.{numbersOf, verdictIs, judgementIs, judgedIs, sixPairs, DeclaredIs, JudgementIs, refusalIn}
-use Rattle.series.specs.Tally.{tallyIs, VerdictIs, GateFits}
-use Rattle.series.proofs.Looping.{Opened, Kept, sheet, columnsOf}
-
--- ---- the judgement of an accepted sheet, from the tally of its columns
-
--- the answer with six columns is the sheet's, with an open pair for each pollutant that its records have no room for
-six-columns : (z : Size) (b : List ℕ) → check (widthIs z) b ≡ accepted
-    → rules.judgeRecords morePollutants squarings (records (widthIs z) b) ≡ sixPairs (widthIs z) (rules.judgeRecords (widthIs z) squarings (records (widthIs z) b))
-six-columns Twenty b e = judge-columns pollutants 2 squarings (records pollutants b) (own-above pollutants b e)
-six-columns TwentyEight b e = judge-columns morePollutants 0 squarings (records morePollutants b) (own-above morePollutants b e)
-
-module _ {z : Size} {b : List ℕ} {s : Summary} {plan : Plan} where
-  pub gate-range : Valid z b s → planIs plan ≡ planOf (s .plan) → GateRange (widthIs z) b (s .head) (s .engines) plan
-  gate-range v e = record { sheet = rw e (laws.accepted-so v); all = laws.engines-are v }
-
-  module _ {g : Gate} (o : Opened z b s plan g) where
-    pub engines-few : s .engines ≤ 32
-    engines-few = omega (arith, laws.engines-are (o .valid), rows-fit (sheet o), last-most (planIs plan))
-
-    pub gate-fits : GateFits g
-    gate-fits = record { few = rw (o .gated) (omega (arith, gate-most (beforeIn (widthIs z) (planIs plan) b) (s .engines), engines-few)) }
-
-    pub judged-so : {k : ℕ} {t : Tally} → Kept z b (s .pollutants) plan g k t → s .pollutants ≤ k
-        → {v : Verdict} → VerdictIs t g (eqb (s .kind) stopKind) (s .engines) v
-        → {ds : Decisions} → (decisionsIs ds ≡ map (upTo (t .rows)) (decisionsIs (t .decisions))) × (declaredIs ds ≡ declaredIs (t .decisions))
-        → JudgementIs (widthIs z) b (record { verdict = v; decisions = ds })
-    unfolding judgeByTally tallied
-    judged-so {k} {t} kept l {v} ve {ds} de =
-        let e : k ≡ length (pollutantsIn (widthIs z) b) = omega (arith, kept .few, laws.pollutants-are (o .valid)) in
-        let all = rw (e, tally-end (columnsOf (widthIs z) plan b) (pollutantsIn (widthIs z) b) (tallyIs t)) at (kept .left) in
-        let marks = rw (e, marked-end (pollutantsIn (widthIs z) b) (declaredIs (t .decisions))) at (kept .marks) in
-        record {
-          judges =
-              ap (λ (xs : List rules.Decision). verdictIs v (map rules.pairOf xs)) (de .0)
-              ∙ ve _
-              ∙ ap (tallied (eqb (s .kind) stopKind) (s .engines) (gateIs g)) all
-              ∙ (rw (o .gated, sheet o .planned, laws.stopped-is (o .valid), laws.engines-are (o .valid)) (sym (sheet-by-tally (sheet o) morePollutants squarings)))
-              ∙ six-columns z b (sheet o .accepts);
-          declares = de .1 ∙ marks ∙ declared-marks (sheet o) morePollutants;
-        }
+use Rattle.tally.specs.Judgements.{numbersOf, judgementIs, sixPairs, JudgementIs}
+use Rattle.series.specs.Answers.{judgedIs, DeclaredIs, refusalIn}
 
 -- ---- the check's answer
 

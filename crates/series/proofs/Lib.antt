@@ -1,2 +1,1 @@
-pub mod Looping
 pub mod Judging

@@ -1,68 +1,19 @@
-// The series: what the columns of a sheet come to together, and what judging answers.
+// The series: what judging answers for the bytes of a sheet, and its evidence.
 ghost use mathlib.Core.Path.{_≡_};
 ghost use Rattle.rules.specs.Logarithm.{squarings};
 ghost use Rattle.rules.specs.Operations as rules;
 ghost use Rattle.rules.specs.Sizes as sizes;
-ghost use Rattle.record.specs.Sizes.{widthIs};
-ghost use Rattle.series.specs.Answers.{numbersOf, judgedIs, sixPairs, DeclaredIs, refusalIn};
+ghost use Rattle.layout.specs.Sizes.{widthIs};
+ghost use Rattle.tally.specs.Judgements.{sixPairs};
+ghost use Rattle.series.specs.Answers.{judgedIs, DeclaredIs, refusalIn};
 use checking::Checked;
 use checking::Refusal;
 use checking::check_sheet;
-use decisions::Decisions;
-use record::Named;
-use record::Size;
+use layout::Named;
+use layout::Size;
+use tally::Judgement;
+use tally::Numbers;
 use tally::judgement_of;
-
-mod tally;
-
-// A verdict with its engine; for another, the engines so far. A fail has its ground in its name.
-pub enum Verdict {
-    Another(u8),
-    Pass(u8),
-    FailByRow(u8),
-    FailByCause(u8),
-    FailByStop(u8),
-    Referred(u8),
-}
-
-// "verdict (0 another, 1 pass, 2 fail, 3 referred), engine (for another, the engines so far), ground (0 none, 1 a row, 2 equal cause, 3 stopped, 4 referred)"
-pub struct Numbers {
-    pub verdict: u8,
-    pub engine: u8,
-    pub ground: u8,
-}
-
-fn numbered(verdict: u8, engine: u8, ground: u8) -> Numbers
-    ensures { λ n. ⌜ n ≡ record { verdict = verdict; engine = engine; ground = ground } ⌝ }
-{
-    Numbers {
-        verdict,
-        engine,
-        ground,
-    }
-}
-
-impl Verdict {
-    // The verdict as document 01's numbers, for the report and for the printed line.
-    pub fn numbers(self) -> Numbers
-        ensures { λ n. ⌜ n ≡ numbersOf self ⌝ }
-    {
-        match self {
-            Verdict::Another(n) => numbered(0, n, 0),
-            Verdict::Pass(n) => numbered(1, n, 1),
-            Verdict::FailByRow(n) => numbered(2, n, 1),
-            Verdict::FailByCause(n) => numbered(2, n, 2),
-            Verdict::FailByStop(n) => numbered(2, n, 3),
-            Verdict::Referred(n) => numbered(3, n, 4),
-        }
-    }
-}
-
-// What is said of an accepted sheet: the verdict, and a decision for each pollutant.
-pub struct Judgement {
-    pub verdict: Verdict,
-    pub decisions: Decisions,
-}
 
 // What judging answers: a judgement, or the refusal of a sheet that the check does not accept.
 pub enum Judged {

@@ -2,7 +2,7 @@
 use Rattle.arithmetic.proofs.Basics.{_-_, _≤_, arith, _≡_, refl, Bool, true, false, eqb, needs}
 use mir.Val.{boolByte}
 use Rattle.accepted.proofs.Sheets.{few, inside, record-inside}
-use Rattle.record.specs.Sizes.{widthIs}
+use Rattle.layout.specs.Sizes.{widthIs}
 use Rattle.causes.specs.Causes.{equalCauses}
 use Rattle.causes.proofs.Gating.{equal-next}
 use Rattle.causes.proofs.equal_causes.Statement.{statement}

@@ -1,6 +1,6 @@
 -- `in_service_gate` meets its contract: while the loop goes on, all rows so far may be looked at.
 use Rattle.arithmetic.proofs.Basics.{_-_, arith}
-use Rattle.record.specs.Sizes.{widthIs}
+use Rattle.layout.specs.Sizes.{widthIs}
 use Rattle.causes.specs.Ranges.{InServiceRange}
 use Rattle.causes.proofs.Gating.{Gated, few-rows, emitters-are, few-gate, gated-none, cause-gate, referral-gate, gated-next, gated-all}
 use Rattle.causes.proofs.in_service_gate.Statement.{statement}

@@ -2,7 +2,7 @@
 use Rattle.arithmetic.proofs.Basics.{_+_, _-_, _*_, _/_, _<_, arith, length, needs}
 use Rattle.rules.specs.Sheet.{morePollutants, size, most, records}
 use Rattle.accepted.proofs.Sheets.{whole-inside}
-use Rattle.record.specs.Sizes.{widthIs}
+use Rattle.layout.specs.Sizes.{widthIs}
 use Rattle.faults.proofs.Agreement.{limits-fit}
 use Rattle.checking.proofs.Progress.{Progress, begin, few, room, faulty, next, done}
 use Rattle.checking.proofs.check_after.Statement.{statement}

@@ -3,10 +3,10 @@ use Rattle.arithmetic.proofs.Basics.{_+_, _*_, _/_, _≤_, div-le-of-le-mul, mu
 use Rattle.rules.specs.Sheet.{morePollutants, size, most}
 use Rattle.rules.specs.Converter.{converted}
 use Rattle.accepted.proofs.Faultless.{sound}
-use Rattle.record.specs.declared.Size.{Size}
-use Rattle.record.specs.declared.Size.the-variants.{Twenty, TwentyEight}
-use Rattle.record.specs.Sizes.{widthIs}
-use Rattle.record.proofs.Sizes.{width-range, no-size, size-is}
+use Rattle.layout.specs.declared.Size.{Size}
+use Rattle.layout.specs.declared.Size.the-variants.{Twenty, TwentyEight}
+use Rattle.layout.specs.Sizes.{widthIs}
+use Rattle.layout.proofs.Sizes.{width-range, no-size, size-is}
 use Rattle.checking.specs.Check.{Valid}
 use Rattle.checking.proofs.Laws.{accepted-sheet, refused-sheet}
 use Rattle.operations.specs.Outcomes.{outcomeIs, checkIs}

@@ -2,7 +2,7 @@
 use Rattle.arithmetic.proofs.Basics.{ℕ, _+_, _-_, _/_, _≤_, _<_, arith, sym, length, take, replicate, length-take-le, needs}
 use Rattle.rules.specs.Sheet.{size}
 use Rattle.accepted.proofs.Sheets.{whole-inside}
-use Rattle.record.specs.Sizes.{widthIs}
+use Rattle.layout.specs.Sizes.{widthIs}
 use Rattle.converting.proofs.Steps.{Reached, begin, done, room, long, part-fits, zeros-fit, next}
 use Rattle.converting.proofs.recast.Statement.{statement}
 use Rattle.converting.proofs.recast.Tie as tie

@@ -1,6 +1,6 @@
 -- `explain` meets its contract: the line of the check's refusal, and none for an accepted sheet. There is room for all of it.
 use Rattle.arithmetic.proofs.Basics.{sym, _∙_, arith, needs}
-use Rattle.record.specs.declared.Size.the-variants.{Twenty}
+use Rattle.layout.specs.declared.Size.the-variants.{Twenty}
 use Rattle.checking.specs.Check.{checkedOf, checkedSized}
 use Rattle.checking.proofs.Laws.{accepted-sheet, refused-sheet}
 use Rattle.lines.specs.Writing.{room, nothing}

@@ -2,7 +2,7 @@
 use Rattle.arithmetic.proofs.Basics.{_+_, _≤_, arith, _≡_, sym, ap, _∙_, length, length-take-le, needs}
 use Rattle.rules.specs.Sheet.{size}
 use Rattle.rules.specs.Operations.{appended}
-use Rattle.record.specs.Sizes.{widthIs}
+use Rattle.layout.specs.Sizes.{widthIs}
 use Rattle.operations.specs.Outcomes.{outcomeIs, checkIs}
 use Rattle.operations.proofs.Appending.{kept, bad-record, no-room, checked-joined, wrote, append-unknown, appended-unknown, append-known}
 use Rattle.operations.proofs.append.Statement.{statement}

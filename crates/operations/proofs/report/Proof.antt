@@ -2,7 +2,7 @@
 use Rattle.arithmetic.proofs.Basics.{arith, _≡_, ap, sym, _∙_, _≤_, refl, length, take, length-take-le, take-all, needs}
 use Rattle.rules.specs.Sheet.{size}
 use Rattle.rules.specs.Operations.{reported}
-use Rattle.record.specs.Sizes.{widthIs}
+use Rattle.layout.specs.Sizes.{widthIs}
 use Rattle.operations.specs.Outcomes.{outcomeIs, judgedCheck}
 use Rattle.operations.proofs.Appending.{kept}
 use Rattle.operations.proofs.Reporting.{too-short, answer-is, wrote, report-unknown, reported-unknown, report-known}

@@ -5,8 +5,8 @@ use Rattle.rules.specs.Sheet.{size, records}
 use Rattle.rules.specs.Sizes.{recordsSized}
 use Rattle.accepted.proofs.Records.{length-records, record-at}
 use Rattle.accepted.proofs.Sheets.{whole-inside}
-use Rattle.record.specs.Sizes.{widthIs}
-use Rattle.record.proofs.Sizes.{known-size, unknown-size}
+use Rattle.layout.specs.Sizes.{widthIs}
+use Rattle.layout.proofs.Sizes.{known-size, unknown-size}
 use Rattle.reading.specs.Steps.{stepOf, stepAt}
 use Rattle.reading.proofs.step_at.Statement.{statement}
 use Rattle.reading.proofs.step_at.Tie as tie
@@ -53,26 +53,39 @@ returns-2 c =
 returns-3 : tie.Need-returns-3
 unfolding stepOf
 returns-3 c =
-    let d = c .before .before .before .before in
-    rw (found (d .before .before)) (stop-eq _ _ _ (d .before .kind-of .ensures .0) (d .if2 .taken) (cc))
+    let l = c .before in
+    let n = l .before .before in
+    let d = n .before in
+    rw (found (d .before .before))
+    (stop-eq _ _ _ (d .before .kind-of .ensures .0) (d .if2 .taken)
+    (rw (c .deviation-of .ensures, l .limit-of .ensures, l .before .plan-of .ensures .0, n .number-of .ensures .0)))
 
 returns-4 : tie.Need-returns-4
 unfolding stepOf
 returns-4 c =
-    let d = c .before .before .before .before .before .before .before in
+    let six = c .before in
+    let four = six .before .before in
+    let two = four .before .before in
+    let d = two .before .before in
     let k = d .before .before in
-    rw (found (k .before)) (skip-eq _ _ _ (k .kind-of .ensures .0) (d .before .if2 .left) (stop-eq _ _ _ (k .kind-of .ensures .0) (d .if3 .taken) (cc)))
+    rw (found (k .before))
+    (skip-eq _ _ _ (k .kind-of .ensures .0) (d .before .if2 .left)
+    (stop-eq _ _ _ (k .kind-of .ensures .0) (d .if3 .taken)
+    (rw (c .cause-of .ensures .0, six .measurement-of6 .ensures, six .before .measurement-of5 .ensures, four .measurement-of4 .ensures)
+    (rw (four .before .measurement-of3 .ensures, two .measurement-of2 .ensures, two .before .measurement-of .ensures)))))
 
 returns-6 : tie.Need-returns-6
 unfolding stepOf
 returns-6 c =
-    let d = c .before .before .before in
+    let v = c .before .before in
+    let d = v .before in
     let k = d .before .before .before .before in
     rw (found (k .before))
     (skip-eq _ _ _ (k .kind-of .ensures .0) (d .before .before .before .if2 .left)
     (skip-eq _ _ _ (k .kind-of .ensures .0) (d .before .before .if3 .left)
     (skip-eq _ _ _ (k .kind-of .ensures .0) (d .before .if4 .left)
-    (stop-eq _ _ _ (k .kind-of .ensures .0) (d .if5 .taken) (cc)))))
+    (stop-eq _ _ _ (k .kind-of .ensures .0) (d .if5 .taken)
+    (rw (c .date-of .ensures, c .before .speed-of .ensures .0, v .volume-of .ensures .0))))))
 
 pub step-at-spec : {M : Type 1} → statement M
 unfolding stepOf

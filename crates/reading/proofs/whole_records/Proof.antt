@@ -1,7 +1,7 @@
 -- A size that there is not, or the records by the size.
 use Rattle.arithmetic.proofs.Basics.{_/_, _∙_, needs}
 use Rattle.rules.specs.Sheet.{size}
-use Rattle.record.proofs.Sizes.{known-size, unknown-size}
+use Rattle.layout.proofs.Sizes.{known-size, unknown-size}
 use Rattle.reading.specs.Steps.{wholeRecords}
 use Rattle.reading.proofs.whole_records.Statement.{statement}
 use Rattle.reading.proofs.whole_records.Tie as tie

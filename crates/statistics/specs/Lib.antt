@@ -1,0 +1,3 @@
+pub mod Column
+pub mod Fours
+pub mod Ranges

@@ -1,0 +1,86 @@
+// Plans 1, 2, 4 and 5: the sums of the measurements' logarithms and of their squares, and the rows by them.
+ghost use Rattle.plan.specs.Plan.{planIs};
+ghost use Rattle.layout.specs.Sizes.{widthIs};
+ghost use Rattle.tables.specs.Tables.{Lent};
+ghost use Rattle.statistics.specs.Column.{ColumnIs, RowFrom};
+ghost use Rattle.statistics.specs.Ranges.{RowRange, LogarithmsRange};
+use crate::fours::four_with;
+use crate::fours::put_four;
+use causes::looks;
+use decisions::Decision;
+use layout::Size;
+use plan::Plan;
+use record::cause_at;
+use rows::Row;
+
+// What row n of the plan says by the sums; level is the limit's logarithm, and `table` is the plan's, lent.
+// W is n × squares − sum × sum: it does not change where every logarithm is moved by the limit's.
+fn row(
+    plan: Plan,
+    n: u64,
+    sum: u64,
+    squares: u64,
+    level: u64,
+    deviation: u64,
+    table: &[[i32; 2]],
+) -> Row
+    requires { ⌜ RowRange plan n sum squares level deviation ⌝ }
+    requires { ⌜ Lent (planIs plan) (now table) ⌝ }
+    ensures { λ r. ⌜ RowFrom plan n sum squares level deviation r ⌝ }
+{
+    if let Plan::KnownDeviation = plan {
+        rows::known_row(n, table, sum, level, deviation)
+    } else {
+        rows::root_row(plan, n, table, sum, n * level, n * squares - sum * sum)
+    }
+}
+
+// A column of these plans, by the plan's table: the sums stand in locals, and the logarithms come in fours.
+pub(crate) fn column(
+    size: Size,
+    bytes: &[u8],
+    start: usize,
+    plan: Plan,
+    number: u32,
+    limit: u32,
+    deviation: u32,
+    rows: usize,
+    table: &[[i32; 2]],
+) -> Decision
+    requires { ⌜ LogarithmsRange (widthIs size) (now bytes) start plan number limit deviation rows ⌝ }
+    requires { ⌜ Lent (planIs plan) (now table) ⌝ }
+    ensures { λ d. ⌜ ColumnIs (widthIs size) plan (now (bytes .entry)) number limit deviation rows d ⌝ }
+{
+    if rows < 3 {
+        return Decision::Open;
+    }
+    let mut logs = [0u32; 4];
+    put_four(&mut logs, limit, size, bytes, start, number, rows, 0);
+    let level = logs[0] as u64;
+    let mut sum: u64 = 0;
+    let mut squares: u64 = 0;
+    let mut any = false;
+    let mut n: usize = 0;
+    while n < rows {
+        let newest = cause_at(size, bytes, start + n) != 0;
+        four_with(&mut logs, size, bytes, start, number, rows, n);
+        n += 1;
+        let y = logs[n % 4] as u64;
+        sum = sum + y;
+        squares = squares + y * y;
+        any = any | newest;
+        if looks(n as u64, newest, any) {
+            let row = row(plan, n as u64, sum, squares, level, deviation as u64, table);
+            match row {
+                Row::Open => {}
+                Row::Pass => {
+                    return Decision::Passed(n as u8);
+                }
+                Row::Fail => {
+                    return Decision::Failed(n as u8);
+                }
+            }
+        }
+    }
+    Decision::Open
+}
