@@ -21,7 +21,7 @@ static inline const char *read_number(const char *text, uint32_t *number)
         return "a number has a sign";
     }
     if (*end == '.' || *end == ',') {
-        return "a decimal point or comma: values are whole thousandths";
+        return "a decimal point or comma: numbers are whole, values in thousandths";
     }
     if (*end != '\0') {
         return "a number has other characters than digits";

@@ -77,13 +77,14 @@
  * POINTERS. Each pointer to several bytes or numbers is followed by how many they
  * are, and must be valid for that many: readable, and writable where it is not
  * const. The builders and readers below take no lengths: a record or report has as
- * many bytes as its size. Where there are none any pointer will do, also a null one, as an empty
- * C++ vector's may be. `sum` and `divisor` each point to one number that can be
- * read and written. What a call writes must not overlap anything else that it is
- * given: the record not the buffer, the output not the sheet, `sum` and `divisor`
- * neither each other nor the tests. Nothing else may write to these bytes, or read
- * those that the call writes, until it returns. Within that, every input has a
- * defined answer: any bytes, any numbers, any sizes, any lengths, any `used`.
+ * many bytes as its size. Where there are none any pointer will do, also a null
+ * one, as an empty C++ vector's may be. `sum` and `divisor` each point to one
+ * number that can be read and written. What a call writes must not overlap
+ * anything else that it is given: the record not the buffer, the output not the
+ * sheet, `sum` and `divisor` neither each other nor the tests. Nothing else may
+ * write to these bytes, or read those that the call writes, until it returns.
+ * Within that, every input has a defined answer: any bytes, any numbers, any
+ * sizes, any lengths, any `used`.
  *
  * THREADS. The library has no state, allocates nothing and keeps no pointer
  * past a call. Calls on separate memory may run at the same time.

@@ -1,27 +1,41 @@
--- The check, the judge and the evidence of rules, over what a request of document 02 replaced of them. All else is as rules has it.
+-- The check, the judge and the evidence of rules as they were before a request of document 02, over what the request replaced of them. All
+-- else is as rules has it.
 use Prim.Native.Nat.{ℕ, _+_, _*_, _%_}
 use mathlib.Core.Bool.{Bool, not, _||_, cond}
 use mathlib.Core.List.{List, [], _∷_, _++_}
 use lib.Dec.{ltb, eqb}
 use lib.ListN.{length, take}
-use Rattle.rules.specs.Sheet.{Record, size, records}
+use Rattle.rules.specs.Tools.{those}
+use Rattle.rules.specs.Sheet.{Record, size, records, kind}
 use Rattle.rules.specs.Series.{Answer, refusal, judgement}
-use Rattle.rules.specs.Refusals.{Fault, first, Check, accepted, refused}
+use Rattle.rules.specs.Refusals as rules
+use Rattle.rules.specs.Refusals.{Fault, fault, first, Check, accepted, refused}
 use Rattle.rules.specs.Operations.{judgeBy}
 
--- the greatest number of records, the faults of a record in their order, and the records before the first engine
+-- what a request replaced: the greatest number of records, the kinds that there were, and the records before the first engine; and the
+-- numbers of the refusals of a record that came with it or after it
 pub record Old : Type 0 where
   pub most : (w : ℕ) → ℕ
-  pub faults : (w : ℕ) → (before : List Record) → Record → List Fault
+  pub isKind : (kind : ℕ) → Bool
+  pub isLater : (refusal : ℕ) → Bool
   pub heading : List Record → List Record
+
+-- whether a line of the list is as it was: none that came later, and not that of refusal 2
+abbrev pub isKept : Old → Fault → Bool
+isKept o (fault number present) = not (eqb number 2 || o .isLater number)
 
 module _ (o : Old) where
   -- ---- the check
 
+  -- "2, kind not ..", of the kinds that there were, and then the list of rules without the later refusals. What that list says of a later kind
+  -- does not count, since 2 stands before it
+  unfoldable pub faults : (w : ℕ) → (before : List Record) → Record → List Fault
+  faults w before r = fault 2 (not (o .isKind (kind r))) ∷ those (isKept o) (rules.faults w before r)
+
   unfoldable pub checkFrom : (w : ℕ) → (before rs : List Record) → Check
   checkFrom w before [] = accepted
   checkFrom w before (r ∷ rs) =
-      cond (eqb (first (o .faults w before r)) 0) (checkFrom w (before ++ (r ∷ [])) rs) (refused (first (o .faults w before r)) (length before))
+      cond (eqb (first (faults w before r)) 0) (checkFrom w (before ++ (r ∷ [])) rs) (refused (first (faults w before r)) (length before))
 
   unfoldable pub badLength : (w bytes : ℕ) → Bool
   badLength w n = eqb n 0 || not (eqb (n % size w) 0) || ltb (o .most w * size w) n

@@ -97,6 +97,6 @@ pub extern "C" fn conformity_declared(
             *divisor = count;
             0
         }
-        Approval::Refused(number) => Refusal { number, place: 0 }.code(),
+        Approval::Refused(number) => Refusal::of_no_record(number).code(),
     }
 }

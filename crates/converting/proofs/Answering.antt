@@ -1,9 +1,8 @@
 -- The converter's answer, in document 02's order.
 use Rattle.arithmetic.proofs.Basics.{ℕ, _+_, _*_, _/_, _≤_, _<_, arith, _≡_, refl, sym, ap, _∙_, ⊎-elim, Bool, true, false, not, _||_, cond, List, [], _∷_, _++_, length, drop}
-use Rattle.arithmetic.proofs.Basics.{eqb, ltb, ne-eqb, eq-eqb, lt-ltb, le-ltb, or-false, or-true, not-true, lt-or-ge}
+use Rattle.arithmetic.proofs.Basics.{eqb, ne-eqb, lt-ltb, le-ltb, or-false, or-true, not-true, lt-or-ge}
 use Rattle.rules.specs.Sheet.{Pollutant, pollutants, morePollutants, size, records, ofKind, declared}
 use Rattle.rules.specs.Refusals.{Check, accepted, refused, check}
-use Rattle.rules.specs.Operations.{onSuccess}
 use Rattle.rules.specs.Sizes.{unknownSize}
 use Rattle.rules.specs.Converter.{above, declaresAbove, roomFor, convert, otherForm, converted, addedPollutants}
 use Rattle.accepted.specs.Sheets.{pollutantsIn}

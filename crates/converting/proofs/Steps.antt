@@ -1,11 +1,11 @@
 -- The converter's loop: what is written so far, and behind it what the output held.
-use Rattle.arithmetic.proofs.Basics.{ℕ, zero, suc, _+_, _-_, _*_, _/_, _%_, _≤_, _<_, le-of-eq, mul-le-mul-left, add-one, arith, _≡_, refl, sym, ap, _∙_, List, [], _∷_, _++_, append-assoc}
+use Rattle.arithmetic.proofs.Basics.{ℕ, zero, suc, _+_, _-_, _*_, _/_, _≤_, _<_, le-of-eq, mul-le-mul-left, add-one, arith, _≡_, refl, sym, ap, _∙_, List, _∷_, _++_, append-assoc}
 use Rattle.arithmetic.proofs.Basics.{append-nil, length, take, drop, replicate, length-append, length-drop, length-replicate, drop-of-length-le, take-at, drop-at, drop-drop, take-all}
-use Rattle.arithmetic.proofs.Basics.{take-take, take-length, length-take-le}
+use Rattle.arithmetic.proofs.Basics.{take-length, length-take-le}
 use Rattle.rules.specs.Sheet.{pollutants, size}
 use Rattle.accepted.specs.Sheets.{recordAt}
 use Rattle.accepted.proofs.Sheets.{whole-inside}
-use Rattle.sizes.specs.Recast.{recastRecord, mapped}
+use Rattle.sizes.specs.Recast.{recastRecord}
 use Rattle.sizes.proofs.Mapped.{mapped-start, mapped-next, mapped-end, mapped-length, length-recast}
 use Rattle.converting.specs.Recasting.{putAt, recast, RecastRange}
 

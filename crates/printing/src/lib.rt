@@ -1,5 +1,4 @@
 // The lines that the program `verdict` prints for a sheet: document 01, "Series that stand on a line".
-ghost use mathlib.Core.Path.{_≡_};
 ghost use mathlib.Core.List.{[], _∷_};
 ghost use Prim.Native.Nat.{_+_};
 ghost use lib.ListN.{length};

@@ -93,10 +93,13 @@ pub fn step_at(size: usize, bytes: &[u8], at: usize) -> Step
         return Step::Stop;
     }
     if kind == SMALL_ENGINE {
+        let volume = volume_of(r);
+        let speed = speed_of(r);
+        let date = date_of(r);
         return Step::SmallEngine {
-            volume: volume_of(r),
-            speed: speed_of(r),
-            date: date_of(r),
+            volume,
+            speed,
+            date,
         };
     }
     Step::Other { kind }

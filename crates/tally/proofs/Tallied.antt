@@ -1,5 +1,5 @@
 -- The judgement of an accepted sheet, from the tally of its columns.
-use Rattle.arithmetic.proofs.Basics.{ℕ, _-_, _≤_, arith, _≡_, sym, ap, _∙_, List, map, eqb, length}
+use Rattle.arithmetic.proofs.Basics.{ℕ, _≤_, arith, _≡_, sym, ap, _∙_, List, map, eqb, length}
 use Rattle.rules.specs.Logarithm.{squarings}
 use Rattle.rules.specs.Sheet.{pollutants, morePollutants, records, stopKind}
 use Rattle.rules.specs.Plans.{planOf}

@@ -41,11 +41,12 @@ enum Tame {
     High,
 }
 
-/// Pollutant 1 alone, two of the first four, or the last two.
+/// Pollutant 1 alone, 3 alone, 2 and 4, or the last two: each of them is somewhere the only one by
+/// which a vehicle is a gross emitter.
 fn declared(size: usize, random: &mut Random) -> Vec<u8> {
     let last = Document01.pollutants(size) as u8;
     random
-        .pick(&[&[1][..], &[2, 4], &[last - 1, last]])
+        .pick(&[&[1][..], &[3], &[2, 4], &[last - 1, last]])
         .to_vec()
 }
 

@@ -1,5 +1,5 @@
 -- The bytes that are read are those of the record's measurement.
-use Rattle.arithmetic.proofs.Basics.{sym, _∙_, arith, needs}
+use Rattle.arithmetic.proofs.Basics.{needs}
 use Rattle.record.proofs.Places.{measurement-place}
 use Rattle.record.proofs.measurement_at.Statement.{statement}
 use Rattle.record.proofs.measurement_at.Tie as tie

@@ -1,5 +1,5 @@
 -- `count::column` meets its contract: while the loop goes on the column is open, and the place is that of the next measurement.
-use Rattle.arithmetic.proofs.Basics.{ℕ, _+_, _-_, _*_, _≤_, _<_, arith, _≡_, refl, sym, ap, _∙_, ltb, length, needs}
+use Rattle.arithmetic.proofs.Basics.{ℕ, _+_, _-_, _*_, _≤_, _<_, arith, _≡_, refl, sym, ap, _∙_, ltb, needs}
 use mir.Val.{boolByte}
 use Rattle.rules.specs.Tools.{four}
 use Rattle.rules.specs.Sheet.{size}
