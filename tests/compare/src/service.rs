@@ -41,8 +41,8 @@ enum Tame {
     High,
 }
 
-/// Pollutant 1 alone, 3 alone, 2 and 4, or the last two: each of them is somewhere the only one by
-/// which a vehicle is a gross emitter.
+/// Pollutant 1 alone, 3 alone, 2 and 4, or the last two, so that a vehicle is a gross emitter by each
+/// of them alone.
 fn declared(size: usize, random: &mut Random) -> Vec<u8> {
     let last = Document01.pollutants(size) as u8;
     random
