@@ -12,7 +12,7 @@ use Rattle.accepted.proofs.Engines.{heading-parts}
 use Rattle.before.specs.Operations as old
 use Rattle.before.specs.Document.{document, isNew}
 use Rattle.before.proofs.Same as same
-use Rattle.before.proofs.Same.{isOther, Added}
+use Rattle.before.proofs.Same.{isLeftOut, Added}
 
 -- ---- what F-1 added
 
@@ -33,9 +33,9 @@ not-newer r e =
     ne-eqb (kind r) smallEngineKind (λ z. omega arith)
 
 -- refusals 16 to 18 are of kind 5 alone
-no-others : (w : ℕ) (before : List Record) (r : Record) → isNew r ≡ false → isKind (kind r) ≡ true → any (isOther document) (faults w before r) ≡ false
+none-left-out : (w : ℕ) (before : List Record) (r : Record) → isNew r ≡ false → isKind (kind r) ≡ true → any (isLeftOut document) (faults w before r) ≡ false
 unfolding faults
-no-others w before r e k = rw (k, e) refl
+none-left-out w before r e k = rw (k, e) refl
 
 pub none-new : (rs : List Record) → any isNew rs ≡ false → ofKind smallEngineKind rs ≡ []
 unfolding ofKind
@@ -50,7 +50,7 @@ small-engines = record {
   fewer = λ w. omega arith;
   kinds = older-kinds;
   older = not-newer;
-  absent = no-others;
+  absent = none-left-out;
   headed = heading-as-before;
 }
 

@@ -12,32 +12,39 @@ use Rattle.answers.proofs.Answers.{checkIn, judge-check}
 use Rattle.before.specs.Operations.{Old, isKept}
 use Rattle.before.specs.Operations as old
 
--- a fault that is present, on a line that is not as it was
-abbrev pub isOther : Old → Fault → Bool
-isOther o (fault number present) = (eqb number 2 || o .isLater number) && present
+abbrev isPresent : Fault → Bool
+isPresent (fault number present) = present
 
--- what a request is asked for: it added to the number of records and to the kinds; its refusals are of newer records alone; and before the
+-- a fault that is present, on a line that is left out
+abbrev pub isLeftOut : Old → Fault → Bool
+isLeftOut o f = not (isKept o f) && isPresent f
+
+-- what is asked of a request: it added to the number of records and to the kinds; its refusals are of newer records alone; and before the
 -- first engine of a sheet without them stands what stood there
 pub record Added (o : Old) (isNew : Record → Bool) : Type 0 where
   pub fewer : (w : ℕ) → o .most w ≤ most w
   pub kinds : (r : Record) → isNew r ≡ false → o .isKind (kind r) ≡ isKind (kind r)
   pub older : (r : Record) → o .isKind (kind r) ≡ true → isNew r ≡ false
-  pub absent : (w : ℕ) (before : List Record) (r : Record) → isNew r ≡ false → isKind (kind r) ≡ true → any (isOther o) (faults w before r) ≡ false
+  pub absent : (w : ℕ) (before : List Record) (r : Record) → isNew r ≡ false → isKind (kind r) ≡ true → any (isLeftOut o) (faults w before r) ≡ false
   pub headed : (w : ℕ) (rs : List Record) → Clean w [] rs → any isNew rs ≡ false → heading rs ≡ o .heading rs
 
 -- ---- one record
 
 -- leaving out what is not present leaves the first that is
-first-without : (o : Old) (fs : List Fault) → any (isOther o) fs ≡ false → first (those (isKept o) fs) ≡ first fs
+first-without : (o : Old) (fs : List Fault) → any (isLeftOut o) fs ≡ false → first (those (isKept o) fs) ≡ first fs
 first-without o [] e = refl
-first-without o (fault k present ∷ fs) e = at (eqb k 2 || o .isLater k) present e (first-without o fs)
+first-without o (fault k present ∷ fs) e = at (isKept o (fault k present)) present e (first-without o fs)
   where
-    at : (other present : Bool) → other && present || any (isOther o) fs ≡ false → (any (isOther o) fs ≡ false → first (those (isKept o) fs) ≡ first fs)
-        → first (cond (not other) (fault k present ∷ those (isKept o) fs) (those (isKept o) fs)) ≡ first (fault k present ∷ fs)
-    at true true e ih = never e
-    at true false e ih = ih e
-    at false true e ih = refl
+    at : (kept present : Bool) → not kept && present || any (isLeftOut o) fs ≡ false → (any (isLeftOut o) fs ≡ false → first (those (isKept o) fs) ≡ first fs)
+        → first (cond kept (fault k present ∷ those (isKept o) fs) (those (isKept o) fs)) ≡ first (fault k present ∷ fs)
+    at false true e ih = never e
     at false false e ih = ih e
+    at true true e ih = refl
+    at true false e ih = ih e
+
+first-absent : (k : ℕ) (present : Bool) (fs : List Fault) → 1 ≤ k → first (fault k present ∷ fs) ≡ 0 → present ≡ false
+first-absent k true fs l e = absurd (omega arith)
+first-absent k false fs l e = refl
 
 -- today's list begins with refusal 2
 kind-first : (w : ℕ) (before : List Record) (r : Record) → isKind (kind r) ≡ false → faultOf w before r ≡ 2
@@ -88,10 +95,6 @@ module _ {o : Old} {isNew : Record → Bool} (a : Added o isNew) where
         (evidence-by (judge w q b) (λ e. a .headed w (records w b) (sound w b (sym (judge-check w q b) ∙ e) .clean) plain))
 
   -- ---- what was accepted has no newer record and was no longer, so that it is accepted, and judged as before
-
-  first-absent : (k : ℕ) (present : Bool) (fs : List Fault) → 1 ≤ k → first (fault k present ∷ fs) ≡ 0 → present ≡ false
-  first-absent k true fs l e = absurd (omega arith)
-  first-absent k false fs l e = refl
 
   records-were-plain : (w : ℕ) (before rs : List Record) → old.checkFrom o w before rs ≡ accepted → any isNew rs ≡ false
   unfolding old.checkFrom old.faults
