@@ -7,8 +7,8 @@
 #include <stdint.h>
 #include <string.h>
 
-enum { RECORD = 20, LONGEST_SHEET = 760, POLLUTANTS = 4, PLANS = 5, LARGEST = 9999999 };
-enum { POLLUTANT = 1, ENGINE = 2, STOP = 3, SMALL_ENGINE = 5 };
+enum { RECORD = 20, LONGEST_SHEET = 780, POLLUTANTS = 4, PLANS = 5, LARGEST = 9999999 };
+enum { POLLUTANT = 1, ENGINE = 2, STOP = 3, SMALL_ENGINE = 5, RUN_IN = 6 };
 enum { OPEN = 0, PASS = 1, FAIL = 2, REFERRED = 3 };
 enum { BY_ROW = 1, BY_EQUAL_CAUSE = 2, BY_STOP = 3, BY_REFERRAL = 4 };
 
@@ -48,12 +48,14 @@ static const double fail_numbers[PLANS + 1][30] = {
 };
 
 struct series {
-    int plan, declared, small_engines, engines, highest, stopped;
+    int plan, declared, small_engines, run_ins, engines, highest, stopped;
     uint32_t limits[POLLUTANTS], deviations[POLLUTANTS];
 };
 
+/* The level is the logarithm that the measurements' are held against; in plan 3 an engine is over
+   the limit if so many times its measurement is above the product. */
 struct standing {
-    double limit, deviation, sum, squares;
+    double level, times, product, deviation, sum, squares;
     int over, decision, engine;
 };
 
@@ -92,6 +94,11 @@ static int in_range(uint32_t number)
     return number >= 1 && number <= LARGEST;
 }
 
+static int fits(uint32_t x, uint32_t limit)
+{
+    return limit == 0 ? x == 0 : in_range(x);
+}
+
 static int pollutant_fault(const uint8_t *record, const struct series *series)
 {
     int number = record[1], plan = record[2];
@@ -112,7 +119,7 @@ static int engine_fault(const uint8_t *record, const struct series *series)
     int is_gross = 0;
     for (int i = 0; i < POLLUTANTS; i++) {
         uint32_t x = number_at(record, 4 + 4 * i);
-        if (series->limits[i] == 0 ? x != 0 : !in_range(x))
+        if (!fits(x, series->limits[i]))
             return 8;
         is_gross |= 2 * (uint64_t)x > 3 * (uint64_t)series->limits[i];
     }
@@ -137,7 +144,8 @@ static int small_engine_fault(const uint8_t *record, const struct series *series
 {
     uint32_t date = number_at(record, 8), limit = series->limits[POLLUTANTS - 1];
     int is_small = short_at(record, 2) < 700 && short_at(record, 4) > 3000;
-    if (series->small_engines > 0 || series->engines > 0 || series->plan == 4)
+    if (series->small_engines > 0 || series->run_ins > 0 || series->engines > 0 ||
+        series->plan == 4)
         return 16;
     if (!is_day(date))
         return 17;
@@ -146,13 +154,24 @@ static int small_engine_fault(const uint8_t *record, const struct series *series
     return record[1] == 0 && short_at(record, 6) == 0 && all_zero(record, 12) ? 0 : 12;
 }
 
+static int run_in_fault(const uint8_t *record, const struct series *series)
+{
+    if (series->run_ins > 0 || series->engines > 0 || series->plan == 4)
+        return 19;
+    for (int i = 0; i < POLLUTANTS; i++)
+        if (!fits(number_at(record, 4 + 4 * i), series->limits[i]))
+            return 8;
+    return record[1] == 0 && short_at(record, 2) == 0 ? 0 : 12;
+}
+
 static int fault(const uint8_t *record, const struct series *series)
 {
     int kind = record[0];
-    if ((kind < POLLUTANT || kind > STOP) && kind != SMALL_ENGINE)
+    if ((kind < POLLUTANT || kind > STOP) && kind != SMALL_ENGINE && kind != RUN_IN)
         return 2;
     if ((series->declared == 0 && kind != POLLUTANT) ||
-        (kind == POLLUTANT && (series->small_engines > 0 || series->engines > 0)) ||
+        (kind == POLLUTANT &&
+         (series->small_engines > 0 || series->run_ins > 0 || series->engines > 0)) ||
         series->stopped)
         return 3;
     if (kind == POLLUTANT)
@@ -161,6 +180,8 @@ static int fault(const uint8_t *record, const struct series *series)
         return engine_fault(record, series);
     if (kind == SMALL_ENGINE)
         return small_engine_fault(record, series);
+    if (kind == RUN_IN)
+        return run_in_fault(record, series);
     if (series->plan == 4)
         return 11;
     return all_zero(record, 1) ? 0 : 12;
@@ -178,6 +199,8 @@ static void take(const uint8_t *record, struct series *series)
         series->engines++;
     } else if (record[0] == SMALL_ENGINE) {
         series->small_engines++;
+    } else if (record[0] == RUN_IN) {
+        series->run_ins++;
     } else {
         series->stopped = 1;
     }
@@ -233,12 +256,29 @@ static int decision(const struct standing *standing, int plan, int n)
     }
 }
 
-static void add(struct standing *standing, int plan, uint32_t limit, uint32_t x)
+static void open_standing(struct standing *standing, int plan, uint32_t limit, uint32_t deviation)
+{
+    standing->level = plan == 3 ? 0 : log(limit);
+    standing->times = 1;
+    standing->product = limit;
+    standing->deviation = deviation / 1e6;
+}
+
+/* By the first engine's value after running-in, and by what it measured before. */
+static void correct(struct standing *standing, int plan, uint32_t value, uint32_t first)
+{
+    if (plan != 3)
+        standing->level += log(first) - log(value);
+    standing->times *= value;
+    standing->product *= first;
+}
+
+static void add(struct standing *standing, int plan, uint32_t x)
 {
     if (plan == 3) {
-        standing->over += x > limit;
+        standing->over += x * standing->times > standing->product;
     } else {
-        double difference = log(x) - standing->limit;
+        double difference = log(x) - standing->level;
         standing->sum += difference;
         standing->squares += difference * difference;
     }
@@ -290,18 +330,22 @@ static void judge(const uint8_t *sheet, const struct series *series, uint8_t *ou
 {
     struct standing standings[POLLUTANTS] = {0};
     struct gross gross = {0};
+    const uint8_t *values = sheet + (series->declared + series->small_engines) * RECORD;
+    const uint8_t *engines = values + series->run_ins * RECORD;
     for (int i = 0; i < POLLUTANTS; i++) {
+        int place = 4 + 4 * i;
         if (series->limits[i] == 0)
             continue;
-        standings[i].limit = series->plan == 3 ? 0 : log(series->limits[i]);
-        standings[i].deviation = series->deviations[i] / 1e6;
+        open_standing(&standings[i], series->plan, series->limits[i], series->deviations[i]);
+        if (series->run_ins > 0 && series->engines > 0)
+            correct(&standings[i], series->plan, number_at(values, place),
+                    number_at(engines, place));
     }
-    const uint8_t *engines = sheet + (series->declared + series->small_engines) * RECORD;
     for (int n = 1; n <= series->engines; n++) {
         const uint8_t *engine = engines + (n - 1) * RECORD;
         for (int i = 0; i < POLLUTANTS; i++)
             if (series->limits[i] != 0 && standings[i].decision == OPEN)
-                add(&standings[i], series->plan, series->limits[i], number_at(engine, 4 + 4 * i));
+                add(&standings[i], series->plan, number_at(engine, 4 + 4 * i));
         add_gross(&gross, cause_of(engine));
         if (n < 3)
             continue;

@@ -15,29 +15,34 @@
  *     small-engine volume=V speed=S date=D     swept volume per cylinder in cubic centimetres,
  *                                         rated speed per minute and date of the test, such as
  *                                         19980930; after the limits, before the engines
+ *     run-in [co=X] [hc=X] [nox=X] [pm=X] [5=X] [6=X]     the first engine's values after
+ *                                         running-in, as an engine's are given; after the limits
+ *                                         and the small engine, before the engines
  *     engine [co=X] [hc=X] [nox=X] [pm=X] [5=X] [6=X] [cause=C]     measurements in thousandths;
  *                                         5 and 6 with -s 28 only
  *     stop                                testing stopped by the manufacturer
  *
  * NAME=NUMBER words stand in any order. Numbers are whole: no sign, no decimal point, no comma.
  * Upper case is read as lower case. Empty lines, lines that begin with # and a byte order mark at
- * the start say nothing, nor does a plan, a limit or a small engine that stands already: cells send
- * theirs at every start. Lines end in LF or CR LF; the last one may have no end.
+ * the start say nothing, nor do a plan, a limit, a small engine and run-in values that stand
+ * already: cells send theirs at every start. Lines end in LF or CR LF; the last one may have no
+ * end.
  *
  * After each engine, and after a stop, the program prints how the series stands; it stops reading
  * when the series is decided. A line that is not understood, or that the library refuses, is
  * passed over: it is told with the reason, and the test goes on with the sheet as it was. Without
- * that limit, small engine or engine the series may pass where it would have failed, so a decision
- * after such a line has an exit status of its own, and the last line counts the lines passed over.
+ * that limit, small engine, run-in values or engine the series may pass where it would have failed,
+ * so a decision after such a line has an exit status of its own, and the last line counts the lines
+ * passed over.
  *
  * FILE
  *
  * With -o the sheet is kept in FILE, which the program `verdict` reads if its records have 20
  * bytes. A record is on the disk before the next line is read; a volume or speed above 65535 is
- * kept as 65535. A FILE that holds a sheet is resumed: plan, limits, small engine and engines are
- * those of the sheet. The bytes of a record that a crash has torn are told, and cut when the next
- * record is written. A FILE that is no sheet, or one of records of the other size, or that another
- * bench keeps, is left as it is. A pipe or a device is only written to.
+ * kept as 65535. A FILE that holds a sheet is resumed: plan, limits, small engine, run-in values
+ * and engines are those of the sheet. The bytes of a record that a crash has torn are told, and cut
+ * when the next record is written. A FILE that is no sheet, or one of records of the other size, or
+ * that another bench keeps, is left as it is. A pipe or a device is only written to.
  *
  * EXIT STATUS
  *
@@ -107,6 +112,9 @@ static const char HELP[] =
     "  small-engine volume=V speed=S date=D     swept volume per cylinder in cubic centimetres,\n"
     "                                      rated speed per minute and date of the test, such as\n"
     "                                      19980930; after the limits, before the engines\n"
+    "  run-in [co=X] [hc=X] [nox=X] [pm=X] [5=X] [6=X]     the first engine's values after\n"
+    "                                      running-in, as an engine's are given; after the limits\n"
+    "                                      and the small engine, before the engines\n"
     "  engine [co=X] [hc=X] [nox=X] [pm=X] [5=X] [6=X] [cause=C]     measurements in thousandths;\n"
     "                                      5 and 6 with -s 28 only\n"
     "  stop                                testing stopped by the manufacturer\n"
@@ -265,24 +273,47 @@ static const char *read_small_engine(size_t size, char **words, size_t count, ui
     return fault;
 }
 
-/* The cause has place 0 among the values, each pollutant that of its number. */
-static const char *read_engine_value(size_t size, char *word, uint32_t *values, int *given)
+/* Each pollutant has the place of its number among the values; place 0 is the cause's, which run-in
+   values do not have. */
+#define VALUE_COUNT (1 + CONFORMITY_POLLUTANTS_28)
+
+static const char *read_engine_value(size_t size, int has_cause, char *word, uint32_t *values,
+                                     int *given)
 {
     const char *number = number_of(word);
     uint32_t place = pollutant_named(size, word);
-    return place > 0 || strcmp(word, "cause") == 0 ? read_value(number, place, values, given)
-                                                   : "an unknown name";
+    return place > 0 || (has_cause && strcmp(word, "cause") == 0)
+               ? read_value(number, place, values, given)
+               : "an unknown name";
+}
+
+static const char *read_engine_values(size_t size, int has_cause, char **words, size_t count,
+                                      uint32_t *values)
+{
+    int given[VALUE_COUNT] = {0};
+    size_t most = conformity_pollutants(size) + (has_cause ? 1 : 0);
+    const char *fault = wrong_count(count, 2, 1 + most);
+    size_t i;
+    for (i = 1; i < count && fault == NULL; i++) {
+        fault = read_engine_value(size, has_cause, words[i], values, given);
+    }
+    return fault;
+}
+
+static const char *read_run_in(size_t size, char **words, size_t count, uint8_t *record)
+{
+    uint32_t values[VALUE_COUNT] = {0};
+    const char *fault = read_engine_values(size, 0, words, count, values);
+    if (fault == NULL) {
+        conformity_run_in_record_sized(size, record, values + 1);
+    }
+    return fault;
 }
 
 static const char *read_engine(size_t size, char **words, size_t count, uint8_t *record)
 {
-    uint32_t values[1 + CONFORMITY_POLLUTANTS_28] = {0};
-    int given[1 + CONFORMITY_POLLUTANTS_28] = {0};
-    const char *fault = wrong_count(count, 2, 2 + conformity_pollutants(size));
-    size_t i;
-    for (i = 1; i < count && fault == NULL; i++) {
-        fault = read_engine_value(size, words[i], values, given);
-    }
+    uint32_t values[VALUE_COUNT] = {0};
+    const char *fault = read_engine_values(size, 1, words, count, values);
     if (fault == NULL) {
         conformity_engine_record_sized(size, record, values[0], values + 1);
     }
@@ -299,6 +330,9 @@ static const char *read_words(struct test *test, char **words, size_t count, uin
     }
     if (strcmp(words[0], "small-engine") == 0) {
         return read_small_engine(test->size, words, count, record);
+    }
+    if (strcmp(words[0], "run-in") == 0) {
+        return read_run_in(test->size, words, count, record);
     }
     if (strcmp(words[0], "engine") == 0) {
         return read_engine(test->size, words, count, record);
@@ -332,19 +366,21 @@ static size_t limits_on(const struct test *test)
     return end;
 }
 
-/* The bytes of what cells send at every start. */
-static size_t limits_and_small_engine_on(const struct test *test)
+/* The bytes of what cells send at every start: all records before the first engine or the stop. */
+static size_t start_on(const struct test *test)
 {
-    size_t end = limits_on(test);
-    int has_small_engine =
-        end < test->used && test->sheet[end + KIND] == CONFORMITY_KIND_SMALL_ENGINE;
-    return has_small_engine ? end + test->size : end;
+    size_t end = 0;
+    while (end < test->used && test->sheet[end + KIND] != CONFORMITY_KIND_ENGINE &&
+           test->sheet[end + KIND] != CONFORMITY_KIND_STOP) {
+        end += test->size;
+    }
+    return end;
 }
 
 static int stands_already(const struct test *test, const uint8_t *record)
 {
     size_t at;
-    for (at = 0; at < limits_and_small_engine_on(test); at += test->size) {
+    for (at = 0; at < start_on(test); at += test->size) {
         if (memcmp(test->sheet + at, record, test->size) == 0) {
             return 1;
         }
@@ -581,7 +617,7 @@ static enum outcome take_record(struct test *test, const uint8_t *record)
     } else if (record[KIND] == CONFORMITY_KIND_STOP) {
         fputs("stop: ", stdout);
     } else {
-        return UNDECIDED; /* a limit or a small engine, before the first engine */
+        return UNDECIDED; /* a limit, a small engine or run-in values, before the first engine */
     }
     return print_standing(test);
 }

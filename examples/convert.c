@@ -57,8 +57,7 @@ static enum outcome trouble(const char *where, const char *why)
 static int names_record(uint32_t number)
 {
     return (number >= CONFORMITY_REFUSED_KIND && number <= CONFORMITY_REFUSED_ZERO) ||
-           (number >= CONFORMITY_REFUSED_SMALL_ENGINE &&
-            number <= CONFORMITY_REFUSED_PARTICULATE_LIMIT);
+           (number >= CONFORMITY_REFUSED_SMALL_ENGINE && number <= CONFORMITY_REFUSED_RUN_IN);
 }
 
 static enum outcome refused(const char *path, size_t size, uint32_t code)

@@ -1,8 +1,8 @@
 /*
  * header_test - checks include/conformity.h: every constant, builder and reader against document
- * 01's bytes and document 02's for 28-byte records and small engines, every refusal, in its order,
- * through the library, sheets of either size and the converter between them, and document 02's
- * declared values. Prints what fails, and last a line `N passed, M failed`.
+ * 01's bytes and document 02's for 28-byte records, small engines and run-in values, every refusal,
+ * in its order, through the library, sheets of either size and the converter between them, and
+ * document 02's declared values. Prints what fails, and last a line `N passed, M failed`.
  */
 #include <conformity.h>
 
@@ -32,11 +32,11 @@ static int same(const uint8_t *bytes, const uint8_t *expected, size_t length)
 static void constants(void)
 {
     CHECK(CONFORMITY_RECORD_SIZE == 20 && CONFORMITY_REPORT_SIZE == 20);
-    CHECK(CONFORMITY_RECORDS_MAX == 38 && CONFORMITY_SHEET_MAX == 760);
+    CHECK(CONFORMITY_RECORDS_MAX == 39 && CONFORMITY_SHEET_MAX == 780);
     CHECK(CONFORMITY_SHEET_MAX == CONFORMITY_RECORDS_MAX * CONFORMITY_RECORD_SIZE);
     CHECK(CONFORMITY_POLLUTANTS == 4);
     CHECK(CONFORMITY_RECORD_SIZE_28 == 28 && CONFORMITY_REPORT_SIZE_28 == 28);
-    CHECK(CONFORMITY_RECORDS_MAX_28 == 40 && CONFORMITY_SHEET_MAX_28 == 1120);
+    CHECK(CONFORMITY_RECORDS_MAX_28 == 41 && CONFORMITY_SHEET_MAX_28 == 1148);
     CHECK(CONFORMITY_SHEET_MAX_28 == CONFORMITY_RECORDS_MAX_28 * CONFORMITY_RECORD_SIZE_28);
     CHECK(CONFORMITY_POLLUTANTS_28 == 6);
     CHECK(CONFORMITY_VALUE_MAX == 9999999);
@@ -47,6 +47,7 @@ static void constants(void)
     CHECK(CONFORMITY_REPORT_MARK == 16);
     CHECK(CONFORMITY_KIND_POLLUTANT == 1 && CONFORMITY_KIND_ENGINE == 2);
     CHECK(CONFORMITY_KIND_STOP == 3 && CONFORMITY_KIND_SMALL_ENGINE == 5);
+    CHECK(CONFORMITY_KIND_RUN_IN == 6);
     CHECK(CONFORMITY_CARBON_MONOXIDE == 1 && CONFORMITY_HYDROCARBONS == 2);
     CHECK(CONFORMITY_NITROGEN_OXIDES == 3 && CONFORMITY_PARTICULATES == 4);
     CHECK(CONFORMITY_POLLUTANT_5 == 5 && CONFORMITY_POLLUTANT_6 == 6);
@@ -75,8 +76,8 @@ static void sizes(void)
     CHECK(conformity_other_size(20) == 28 && conformity_other_size(28) == 20);
     CHECK(conformity_converted_length(20, 100) == 140);
     CHECK(conformity_converted_length(28, 140) == 100);
-    CHECK(conformity_converted_length(20, CONFORMITY_SHEET_MAX) == 1064);
-    CHECK(conformity_converted_length(28, 1064) == CONFORMITY_SHEET_MAX);
+    CHECK(conformity_converted_length(20, CONFORMITY_SHEET_MAX) == 1092);
+    CHECK(conformity_converted_length(28, 1092) == CONFORMITY_SHEET_MAX);
     CHECK(conformity_converted_length(20, 0) == 0 && conformity_converted_length(28, 0) == 0);
     for (i = 0; i < NO_SIZE_COUNT; i++) {
         CHECK(conformity_pollutants(NO_SIZES[i]) == 0);
@@ -93,6 +94,8 @@ static void builders(void)
     static const uint8_t stop[20] = {3};
     static const uint8_t small_engine[20] = {5, 0, 0xbb, 0x02, 0xb9, 0x0b, 0,
                                              0, 0x82, 0xe2, 0x30, 0x01}; /* 699, 3001, 19980930 */
+    static const uint8_t run_in[20] = {6,    0,    0,    0,    0x04, 0x03, 0x02, 0x01, 0, 0,
+                                       0,    0,    0xff, 0xff, 0xff, 0xff, 0x7f, 0x96, 0x98, 0};
     static const uint8_t wide_pollutant[20] = {1,    255,  255,  0, 0xff, 0xff, 0xff, 0xff,
                                                0xff, 0xff, 0xff, 0xff};
     static const uint8_t wide_engine[20] = {2, 0, 0xff, 0xff};
@@ -118,6 +121,10 @@ static void builders(void)
     memset(record, 0xa5, sizeof record);
     conformity_small_engine_record(record, 699, 3001, 19980930);
     CHECK(same(record, small_engine, 20) && record[20] == 0xa5);
+
+    memset(record, 0xa5, sizeof record);
+    conformity_run_in_record(record, measurements);
+    CHECK(same(record, run_in, 20) && record[20] == 0xa5);
 
     /* 257 and 65536 + 7 must not become 1 and 7. */
     conformity_pollutant_record(record, 257, 257, UINT32_MAX, UINT32_MAX);
@@ -150,6 +157,9 @@ static void sized_builders(void)
     static const uint8_t stop[28] = {3};
     static const uint8_t small_engine[28] = {5, 0, 0xbb, 0x02, 0xb9, 0x0b, 0,
                                              0, 0x82, 0xe2, 0x30, 0x01};
+    static const uint8_t run_in[28] = {6,    0,    0,    0,    0x04, 0x03, 0x02, 0x01, 0,    0,
+                                       0,    0,    0xff, 0xff, 0xff, 0xff, 0x7f, 0x96, 0x98, 0,
+                                       0x08, 0x07, 0x06, 0x05, 0x0c, 0x0b, 0x0a, 0x09};
     static const uint32_t measurements[6] = {
         0x01020304, 0, UINT32_MAX, CONFORMITY_VALUE_MAX, 0x05060708, 0x090a0b0c,
     };
@@ -176,6 +186,10 @@ static void sized_builders(void)
         memset(record, 0xa5, sizeof record);
         conformity_small_engine_record_sized(size, record, 699, 3001, 19980930);
         CHECK(same(record, small_engine, written) && is_untouched(record, written, sizeof record));
+
+        memset(record, 0xa5, sizeof record);
+        conformity_run_in_record_sized(size, record, measurements);
+        CHECK(same(record, run_in, written) && is_untouched(record, written, sizeof record));
     }
 }
 
@@ -236,7 +250,7 @@ static void sized_readers(void)
 /* Of the numbers up to the greatest refusal's. */
 static int is_no_refusal(uint32_t number)
 {
-    return number == 19 || (number >= 23 && number <= 29);
+    return number >= 23 && number <= 29;
 }
 
 static void codes(void)
@@ -248,15 +262,16 @@ static void codes(void)
     CHECK(conformity_refusal_number(15 * 256 + 255) == 15);
     CHECK(conformity_refusal_record(15 * 256 + 255) == 255);
     CHECK(CONFORMITY_REFUSED_SMALL_ENGINE == 16 && CONFORMITY_REFUSED_DATE == 17);
-    CHECK(CONFORMITY_REFUSED_PARTICULATE_LIMIT == 18);
+    CHECK(CONFORMITY_REFUSED_PARTICULATE_LIMIT == 18 && CONFORMITY_REFUSED_RUN_IN == 19);
     CHECK(conformity_refusal_number(18 * 256 + 6) == CONFORMITY_REFUSED_PARTICULATE_LIMIT);
     CHECK(conformity_refusal_record(18 * 256 + 6) == 6);
+    CHECK(conformity_refusal_number(19 * 256 + 38) == CONFORMITY_REFUSED_RUN_IN);
+    CHECK(conformity_refusal_record(19 * 256 + 38) == 38);
     CHECK(CONFORMITY_REFUSED_TESTS == 20 && CONFORMITY_REFUSED_VALUE == 21);
     CHECK(CONFORMITY_REFUSED_LATE_TEST == 22);
     CHECK(CONFORMITY_REFUSED_SIZE == 30 && CONFORMITY_REFUSED_NARROWING == 31);
     CHECK(CONFORMITY_REFUSED_CONVERTED_OUTPUT == 32);
-    /* A sentence of its own for each number: 0, 1 to 18, 20 to 22, 30 to 32, and one for all
-       others. */
+    /* A sentence of its own for each number: 0, 1 to 22, 30 to 32, and one for all others. */
     for (number = 0; number <= CONFORMITY_REFUSED_CONVERTED_OUTPUT; number++) {
         CHECK(conformity_refusal_text(number)[0] != '\0');
         for (other = 0; other < number; other++) {
@@ -264,15 +279,15 @@ static void codes(void)
                   (is_no_refusal(number) && is_no_refusal(other)));
         }
     }
-    CHECK(strcmp(conformity_refusal_text(19), conformity_refusal_text(UINT32_MAX)) == 0);
-    CHECK(strcmp(conformity_refusal_text(19), conformity_refusal_text(33)) == 0);
+    CHECK(strcmp(conformity_refusal_text(23), conformity_refusal_text(UINT32_MAX)) == 0);
+    CHECK(strcmp(conformity_refusal_text(23), conformity_refusal_text(33)) == 0);
 }
 
-/* The sentences that speak of small engines. */
-static void small_engine_texts(void)
+/* The sentences that speak of small engines and of run-in values. */
+static void later_texts(void)
 {
     CHECK(strcmp(conformity_refusal_text(CONFORMITY_REFUSED_KIND),
-                 "the record's kind is not 1, 2, 3 or 5") == 0);
+                 "the record's kind is not 1, 2, 3, 5 or 6") == 0);
     CHECK(strcmp(conformity_refusal_text(CONFORMITY_REFUSED_SMALL_ENGINE),
                  "the small engine is a second one, is not straight after the pollutants, "
                  "or is in plan 4") == 0);
@@ -281,6 +296,8 @@ static void small_engine_texts(void)
     CHECK(strcmp(conformity_refusal_text(CONFORMITY_REFUSED_PARTICULATE_LIMIT),
                  "the particulate limit is not the one for the volume, speed and date: "
                  "250 or 150") == 0);
+    CHECK(strcmp(conformity_refusal_text(CONFORMITY_REFUSED_RUN_IN),
+                 "the run-in record is a second one, follows an engine, or is in plan 4") == 0);
 }
 
 struct sized_text {
@@ -291,7 +308,7 @@ struct sized_text {
 
 /* The sentences that have a number of the size in them. */
 static const struct sized_text SIZED_TEXTS[] = {
-    {CONFORMITY_REFUSED_LENGTH, "longer than 760 bytes", "longer than 1120 bytes"},
+    {CONFORMITY_REFUSED_LENGTH, "longer than 780 bytes", "longer than 1148 bytes"},
     {CONFORMITY_REFUSED_POLLUTANT, "not 1 to 4,", "not 1 to 6,"},
     {CONFORMITY_REFUSED_RECORD, "not 20 bytes", "not 28 bytes"},
     {CONFORMITY_REFUSED_OUTPUT, "than 20 bytes", "than 28 bytes"},
@@ -424,6 +441,16 @@ static uint32_t append_small_engine(uint32_t volume, uint32_t speed, uint32_t da
     return append(record);
 }
 
+/* The value of particulates alone. */
+static uint32_t append_run_in(uint32_t particulates)
+{
+    uint32_t values[CONFORMITY_POLLUTANTS_28] = {0, 0, 0, 0, 0, 0};
+    uint8_t record[CONFORMITY_RECORD_SIZE_28];
+    values[CONFORMITY_PARTICULATES - 1] = particulates;
+    conformity_run_in_record_sized(record_size, record, values);
+    return append(record);
+}
+
 static uint32_t code_of(uint32_t number, uint32_t record)
 {
     return number * 256 + record;
@@ -455,6 +482,11 @@ static void refused_zeros(void)
         size_t byte = i == 9 ? 1 : i == 10 ? 6 : i == 11 ? 7 : i;
         conformity_small_engine_record_sized(record_size, record, 700, 3000, 19981001);
         record[byte] = 1;
+        CHECK(append(record) == code_of(CONFORMITY_REFUSED_ZERO, 1));
+    }
+    for (i = 1; i <= 3; i++) {
+        conformity_run_in_record_sized(record_size, record, measurements);
+        record[i] = 1;
         CHECK(append(record) == code_of(CONFORMITY_REFUSED_ZERO, 1));
     }
 }
@@ -579,38 +611,57 @@ static void append_every_pollutant(void)
     }
 }
 
+static const uint32_t EVERY_MEASUREMENT[CONFORMITY_POLLUTANTS_28] = {150, 150, 150, 150, 150, 150};
+
+static uint32_t append_every_run_in(void)
+{
+    uint8_t record[CONFORMITY_RECORD_SIZE_28];
+    conformity_run_in_record_sized(record_size, record, EVERY_MEASUREMENT);
+    return append(record);
+}
+
 /* As many engines as the plan has rows, and a stop. */
 static void append_every_engine(void)
 {
-    static const uint32_t measurements[CONFORMITY_POLLUTANTS_28] = {150, 150, 150, 150, 150, 150};
     uint8_t record[CONFORMITY_RECORD_SIZE_28];
     int engine;
-    conformity_engine_record_sized(record_size, record, 0, measurements);
+    conformity_engine_record_sized(record_size, record, 0, EVERY_MEASUREMENT);
     for (engine = 1; engine <= 32; engine++) {
         CHECK(append(record) == 0);
     }
     CHECK(append_stop() == 0);
 }
 
-/* With a record more it is as long as a sheet may be: that record is refused, not the length. */
-static void longest_without_small_engine(void)
+/* With a record more none is longer than a sheet may be: that record is refused, not the length. */
+static void shorter_by_a_kind(void)
 {
-    new_sheet();
-    append_every_pollutant();
-    append_every_engine();
-    CHECK(used == longest() - record_size);
-    CHECK(append_stop() == code_of(CONFORMITY_REFUSED_ORDER, (uint32_t)(used / record_size)));
-    CHECK(append_small_engine(700, 3000, 19981001) ==
-          code_of(CONFORMITY_REFUSED_ORDER, (uint32_t)(used / record_size)));
+    int has_small_engine, has_run_in;
+    for (has_small_engine = 0; has_small_engine <= 1; has_small_engine++) {
+        for (has_run_in = 0; has_run_in <= 1 - has_small_engine; has_run_in++) {
+            uint32_t refused;
+            new_sheet();
+            append_every_pollutant();
+            CHECK(!has_small_engine || append_small_engine(700, 3000, 19981001) == 0);
+            CHECK(!has_run_in || append_every_run_in() == 0);
+            append_every_engine();
+            CHECK(used == longest() - (has_small_engine || has_run_in ? 1 : 2) * record_size);
+            refused = code_of(CONFORMITY_REFUSED_ORDER, (uint32_t)(used / record_size));
+            CHECK(append_stop() == refused);
+            CHECK(append_small_engine(700, 3000, 19981001) == refused);
+            CHECK(append_every_run_in() == refused);
+        }
+    }
 }
 
-/* The longest sheet there is: every pollutant, a small engine, 32 engines and a stop. */
+/* The longest sheet there is: every pollutant, a small engine, run-in values, 32 engines and a
+   stop. */
 static void longest_sheet(void)
 {
     uint8_t record[CONFORMITY_RECORD_SIZE_28];
     new_sheet();
     append_every_pollutant();
     CHECK(append_small_engine(700, 3000, 19981001) == 0);
+    CHECK(append_every_run_in() == 0);
     append_every_engine();
     CHECK(used == longest());
     CHECK(append_stop() == code_of(CONFORMITY_REFUSED_LENGTH, 0));
@@ -890,7 +941,7 @@ static void no_particulates(void)
     CHECK(append_small_engine(699, 3001, 19980930) == 0);
 }
 
-/* Straight after the pollutants, once, not in plan 4; and no record is of kind 4 or 6. */
+/* Straight after the pollutants, once, not in plan 4; and no record is of kind 4 or 7. */
 static void misplaced_small_engines(void)
 {
     uint8_t record[CONFORMITY_RECORD_SIZE_28];
@@ -900,7 +951,7 @@ static void misplaced_small_engines(void)
     conformity_small_engine_record_sized(record_size, record, 699, 3001, 19980930);
     record[0] = 4;
     CHECK(append(record) == code_of(CONFORMITY_REFUSED_KIND, 1));
-    record[0] = 6;
+    record[0] = 7;
     CHECK(append(record) == code_of(CONFORMITY_REFUSED_KIND, 1));
     CHECK(append_small_engine(699, 3001, 19980930) == 0);
     CHECK(append_small_engine(699, 3001, 19980930) == code_of(CONFORMITY_REFUSED_SMALL_ENGINE, 2));
@@ -946,15 +997,10 @@ static void small_engine_order(void)
     CHECK(append(record) == code_of(CONFORMITY_REFUSED_ZERO, 1));
 }
 
-/* A sheet with such a record is refused by every entry alike, and append names that record. */
-static void refused_small_engine_sheet(uint32_t number, uint32_t date)
+/* The sheet in the buffer is refused by every entry alike, and append names the faulty record. */
+static void refused_by_all(uint32_t refused)
 {
     uint8_t record[CONFORMITY_RECORD_SIZE_28], report[CONFORMITY_REPORT_SIZE_28];
-    uint32_t refused = code_of(number, 1);
-    new_sheet();
-    CHECK(append_pollutant(4, CONFORMITY_PLAN_ATTRIBUTES, 250, 0) == 0);
-    conformity_small_engine_record_sized(record_size, buffer + used, 699, 3001, date);
-    used += record_size;
     memset(report, 0xa5, sizeof report);
     CHECK(report_on(buffer, used, report, sizeof report) == refused);
     CHECK(is_untouched(report, 0, sizeof report));
@@ -968,6 +1014,15 @@ static void refused_small_engine_sheet(uint32_t number, uint32_t date)
           code_of(CONFORMITY_REFUSED_OUTPUT, 0));
 }
 
+static void refused_small_engine_sheet(uint32_t number, uint32_t date)
+{
+    new_sheet();
+    CHECK(append_pollutant(4, CONFORMITY_PLAN_ATTRIBUTES, 250, 0) == 0);
+    conformity_small_engine_record_sized(record_size, buffer + used, 699, 3001, date);
+    used += record_size;
+    refused_by_all(code_of(number, 1));
+}
+
 static void small_engines(void)
 {
     small_engine_cases();
@@ -977,6 +1032,197 @@ static void small_engines(void)
     small_engine_order();
     refused_small_engine_sheet(CONFORMITY_REFUSED_DATE, 19980931);
     refused_small_engine_sheet(CONFORMITY_REFUSED_PARTICULATE_LIMIT, 19981001);
+}
+
+/* ---- Document 02, F-2: run-in engines ---- */
+
+/* A series of particulates, and how it stands after so many engines. */
+struct run_in_case {
+    uint32_t plan;
+    uint32_t limit;
+    uint32_t deviation;
+    uint32_t value; /* of the first engine after running-in */
+    uint32_t engines[5];
+    size_t count;
+    uint32_t verdict;
+    uint32_t engine;
+};
+
+static const struct run_in_case RUN_IN_CASES[] = {
+    /* Plan 3: measurement * 90 is above 100 * 100 from 112 on. */
+    {3, 100, 0, 90, {100, 110, 111, 111}, 3, CONFORMITY_VERDICT_ANOTHER, 3},
+    {3, 100, 0, 90, {100, 110, 111, 111}, 4, CONFORMITY_VERDICT_PASS, 4},
+    {3, 100, 0, 90, {100, 110, 111, 112}, 4, CONFORMITY_VERDICT_ANOTHER, 4},
+    {3, 100, 0, 90, {100, 110, 111, 111, CONFORMITY_VALUE_MAX}, 5, CONFORMITY_VERDICT_PASS, 4},
+    /* The first engine counts as its value after running-in. */
+    {3, 100, 0, 100, {1, 1, 1, 1}, 4, CONFORMITY_VERDICT_PASS, 4},
+    {3, 100, 0, 101, {1, 1, 1}, 3, CONFORMITY_VERDICT_FAIL, 3},
+    {3, 100, 0, 100, {CONFORMITY_VALUE_MAX, 1, 1, 1}, 4, CONFORMITY_VERDICT_PASS, 4},
+    {3, 100, 0, 100, {1, 1, 1, 2}, 4, CONFORMITY_VERDICT_ANOTHER, 4},
+    /* Lower first measurements make the others count for more. */
+    {3, 1, 0, 1, {2, 1, 1, 2}, 4, CONFORMITY_VERDICT_PASS, 4},
+    {3, 1, 0, 1, {1, 1, 1, 2}, 4, CONFORMITY_VERDICT_ANOTHER, 4},
+    /* The greatest products, equal and not. */
+    {3, CONFORMITY_VALUE_MAX, 0, CONFORMITY_VALUE_MAX, {9999998, 9999998, 9999998, 9999998}, 4,
+     CONFORMITY_VERDICT_PASS, 4},
+    {3, CONFORMITY_VALUE_MAX, 0, CONFORMITY_VALUE_MAX,
+     {9999998, CONFORMITY_VALUE_MAX, CONFORMITY_VALUE_MAX, CONFORMITY_VALUE_MAX,
+      CONFORMITY_VALUE_MAX},
+     5, CONFORMITY_VERDICT_FAIL, 5},
+    /* Products about 4,294,967,296, which 32 bits do not hold. */
+    {3, 65536, 0, 65535, {65536, 65537, 65537, 65537}, 4, CONFORMITY_VERDICT_PASS, 4},
+    {3, 65535, 0, 65536, {65537, 65536, 65536}, 3, CONFORMITY_VERDICT_FAIL, 3},
+    /* Plan 1: run in to half and to twice the limit, and on a line of 4100, 4200, 3900. */
+    {1, 4000, 625020, 2000, {4000, 4000, 4000}, 3, CONFORMITY_VERDICT_PASS, 3},
+    {1, 4000, 625021, 2000, {4000, 4000, 4000}, 3, CONFORMITY_VERDICT_ANOTHER, 3},
+    {1, 4000, 440186, 8000, {4000, 4000, 4000}, 3, CONFORMITY_VERDICT_FAIL, 3},
+    {1, 4000, 440187, 8000, {4000, 4000, 4000}, 3, CONFORMITY_VERDICT_ANOTHER, 3},
+    {1, 4000, 78087, 3700, {4100, 4200, 3900}, 3, CONFORMITY_VERDICT_PASS, 3},
+    {1, 4000, 78088, 3700, {4100, 4200, 3900}, 3, CONFORMITY_VERDICT_ANOTHER, 3},
+    {1, 4000, 625020, 2000, {0}, 0, CONFORMITY_VERDICT_ANOTHER, 0},
+    /* Plans 2 and 5. */
+    {2, 4000, 0, 4000, {8000, 8000, 8000}, 3, CONFORMITY_VERDICT_PASS, 3},
+    {2, 4000, 0, 4000, {8000, 8000, 4000}, 3, CONFORMITY_VERDICT_ANOTHER, 3},
+    {2, 4000, 0, 8000, {4000, 4000, 4000}, 3, CONFORMITY_VERDICT_FAIL, 3},
+    {2, 4000, 0, 8000, {4000, 4000, 8000}, 3, CONFORMITY_VERDICT_ANOTHER, 3},
+    {2, 9000000, 0, 9000001, {1, 1, 1}, 3, CONFORMITY_VERDICT_PASS, 3},
+    {2, 9000000, 0, 9000002, {1, 1, 1}, 3, CONFORMITY_VERDICT_FAIL, 3},
+    {5, 4000, 0, 4000, {8000, 8000, 8000}, 3, CONFORMITY_VERDICT_PASS, 3},
+    {5, 4000, 0, 8000, {4000, 4000, 4000}, 3, CONFORMITY_VERDICT_FAIL, 3},
+};
+
+static void run_in_cases(void)
+{
+    size_t i, j;
+    for (i = 0; i < sizeof RUN_IN_CASES / sizeof RUN_IN_CASES[0]; i++) {
+        const struct run_in_case *c = &RUN_IN_CASES[i];
+        uint32_t ground = c->verdict == CONFORMITY_VERDICT_ANOTHER ? CONFORMITY_GROUND_NONE
+                                                                   : CONFORMITY_GROUND_ROW;
+        new_sheet();
+        CHECK(append_pollutant(4, c->plan, c->limit, c->deviation) == 0);
+        CHECK(append_run_in(c->value) == 0);
+        for (j = 0; j < c->count; j++) {
+            CHECK(append_engine(c->engines[j], 0) == 0);
+        }
+        /* With one pollutant its decision has the verdict's number. */
+        CHECK_REPORT(c->verdict, ground, c->engine, c->verdict);
+    }
+}
+
+/* The record counts as no engine, also behind a small engine; a stop straight after it fails. */
+static void run_in_is_no_engine(void)
+{
+    int i;
+    new_sheet();
+    CHECK(append_pollutant(4, CONFORMITY_PLAN_ATTRIBUTES, 150, 0) == 0);
+    CHECK(append_small_engine(700, 3000, 19981001) == 0);
+    CHECK(append_run_in(150) == 0);
+    CHECK_REPORT(CONFORMITY_VERDICT_ANOTHER, CONFORMITY_GROUND_NONE, 0, CONFORMITY_DECISION_OPEN);
+    for (i = 1; i <= 19; i++) {
+        CHECK(append_engine(300, 0) == 0);
+    }
+    CHECK_REPORT(CONFORMITY_VERDICT_PASS, CONFORMITY_GROUND_ROW, 4, CONFORMITY_DECISION_PASS);
+    CHECK(append_engine(300, 0) == code_of(CONFORMITY_REFUSED_ENGINES, 22));
+
+    new_sheet();
+    CHECK(append_pollutant(4, CONFORMITY_PLAN_KNOWN_DEVIATION, 4000, 625020) == 0);
+    CHECK(append_run_in(2000) == 0);
+    CHECK(append_stop() == 0);
+    CHECK_REPORT(CONFORMITY_VERDICT_FAIL, CONFORMITY_GROUND_STOPPED, 0, CONFORMITY_DECISION_OPEN);
+}
+
+/* Refused as an engine's measurements are. */
+static void refused_run_in_values(void)
+{
+    uint8_t record[CONFORMITY_RECORD_SIZE_28];
+    uint32_t refused = code_of(CONFORMITY_REFUSED_MEASUREMENT, 1), pollutant;
+    new_sheet();
+    CHECK(append_pollutant(4, CONFORMITY_PLAN_ATTRIBUTES, 150, 0) == 0);
+    CHECK(append_run_in(0) == refused);
+    CHECK(append_run_in(CONFORMITY_VALUE_MAX + 1) == refused);
+    CHECK(append_run_in(UINT32_MAX) == refused);
+    for (pollutant = 1; pollutant <= conformity_pollutants(record_size); pollutant++) {
+        uint32_t values[CONFORMITY_POLLUTANTS_28] = {0, 0, 0, 140, 0, 0};
+        values[pollutant - 1] = pollutant == CONFORMITY_PARTICULATES ? 0 : 1;
+        conformity_run_in_record_sized(record_size, record, values);
+        CHECK(append(record) == refused);
+    }
+    CHECK(append_run_in(CONFORMITY_VALUE_MAX) == 0);
+}
+
+/* Before the first engine, behind the pollutants and the small engine, once, not in plan 4. */
+static void misplaced_run_ins(void)
+{
+    new_sheet();
+    CHECK(append_run_in(90) == code_of(CONFORMITY_REFUSED_ORDER, 0));
+    CHECK(append_pollutant(4, CONFORMITY_PLAN_ATTRIBUTES, 150, 0) == 0);
+    CHECK(append_run_in(90) == 0);
+    CHECK(append_run_in(90) == code_of(CONFORMITY_REFUSED_RUN_IN, 2));
+    CHECK(append_small_engine(700, 3000, 19981001) == code_of(CONFORMITY_REFUSED_SMALL_ENGINE, 2));
+    CHECK(append_pollutant(4, CONFORMITY_PLAN_ATTRIBUTES, 150, 0) ==
+          code_of(CONFORMITY_REFUSED_ORDER, 2));
+    CHECK(append_engine(140, 0) == 0);
+    CHECK(append_run_in(90) == code_of(CONFORMITY_REFUSED_RUN_IN, 3));
+    CHECK(append_stop() == 0);
+    CHECK(append_run_in(90) == code_of(CONFORMITY_REFUSED_ORDER, 4));
+
+    new_sheet();
+    CHECK(append_pollutant(4, CONFORMITY_PLAN_ATTRIBUTES, 150, 0) == 0);
+    CHECK(append_engine(140, 0) == 0);
+    CHECK(append_run_in(90) == code_of(CONFORMITY_REFUSED_RUN_IN, 2));
+
+    new_sheet();
+    CHECK(append_pollutant(4, CONFORMITY_PLAN_ATTRIBUTES, 150, 0) == 0);
+    CHECK(append_stop() == 0);
+    CHECK(append_run_in(90) == code_of(CONFORMITY_REFUSED_ORDER, 2));
+
+    new_sheet();
+    CHECK(append_pollutant(4, CONFORMITY_PLAN_IN_SERVICE, 150, 0) == 0);
+    CHECK(append_run_in(90) == code_of(CONFORMITY_REFUSED_RUN_IN, 1));
+}
+
+/* The first in the order 2, 3, 19, 8, 12 of run-in values with each later fault too. */
+static void run_in_order(void)
+{
+    static const uint32_t none[CONFORMITY_POLLUTANTS_28] = {0, 0, 0, 0, 0, 0};
+    uint8_t record[CONFORMITY_RECORD_SIZE_28];
+    conformity_run_in_record_sized(record_size, record, none);
+    record[1] = 1;
+    new_sheet();
+    record[0] = 7;
+    CHECK(append(record) == code_of(CONFORMITY_REFUSED_KIND, 0));
+    record[0] = CONFORMITY_KIND_RUN_IN;
+    CHECK(append(record) == code_of(CONFORMITY_REFUSED_ORDER, 0));
+    CHECK(append_pollutant(4, CONFORMITY_PLAN_IN_SERVICE, 150, 0) == 0);
+    CHECK(append(record) == code_of(CONFORMITY_REFUSED_RUN_IN, 1));
+
+    new_sheet();
+    CHECK(append_pollutant(4, CONFORMITY_PLAN_ATTRIBUTES, 150, 0) == 0);
+    CHECK(append(record) == code_of(CONFORMITY_REFUSED_MEASUREMENT, 1));
+    record[16] = 1; /* particulates */
+    CHECK(append(record) == code_of(CONFORMITY_REFUSED_ZERO, 1));
+    record[1] = 0;
+    CHECK(append(record) == 0);
+}
+
+static void refused_run_in_sheet(void)
+{
+    new_sheet();
+    CHECK(append_pollutant(4, CONFORMITY_PLAN_ATTRIBUTES, 150, 0) == 0);
+    CHECK(append_run_in(90) == 0);
+    memcpy(buffer + used, buffer + used - record_size, record_size);
+    used += record_size;
+    refused_by_all(code_of(CONFORMITY_REFUSED_RUN_IN, 2));
+}
+
+static void run_in_engines(void)
+{
+    run_in_cases();
+    run_in_is_no_engine();
+    refused_run_in_values();
+    misplaced_run_ins();
+    run_in_order();
+    refused_run_in_sheet();
 }
 
 /* ---- Document 02, F-10: two sizes ---- */
@@ -995,13 +1241,14 @@ static void each_way(void)
         refused_records();
         refused_memory();
         no_memory();
-        longest_without_small_engine();
+        shorter_by_a_kind();
         longest_sheet();
         verdicts();
         referral();
         corrected_sheet();
         finer_logarithm();
         small_engines();
+        run_in_engines();
     }
 }
 
@@ -1070,6 +1317,35 @@ static void each_pollutant(void)
     }
 }
 
+/* Each pollutant is corrected by its own value: pollutant p measures 100 + p of limit 100, and the
+   value of one alone is above the limit, which fails in its own pair. */
+static void each_run_in_value(void)
+{
+    uint32_t pollutant, p;
+    for (pollutant = 1; pollutant <= CONFORMITY_POLLUTANTS_28; pollutant++) {
+        uint8_t expected[28] = {16, 2, 1, 3};
+        uint8_t record[CONFORMITY_RECORD_SIZE_28], report[CONFORMITY_REPORT_SIZE_28];
+        uint32_t values[CONFORMITY_POLLUTANTS_28], measurements[CONFORMITY_POLLUTANTS_28];
+        int engine;
+        new_sheet_of_28();
+        for (p = 1; p <= CONFORMITY_POLLUTANTS_28; p++) {
+            CHECK(append_pollutant(p, CONFORMITY_PLAN_ATTRIBUTES, 100, 0) == 0);
+            values[p - 1] = p == pollutant ? 101 : 100;
+            measurements[p - 1] = 100 + p;
+        }
+        conformity_run_in_record_sized(record_size, record, values);
+        CHECK(append(record) == 0);
+        conformity_engine_record_sized(record_size, record, 0, measurements);
+        for (engine = 1; engine <= 3; engine++) {
+            CHECK(append(record) == 0);
+        }
+        CHECK(report_on(buffer, used, report, sizeof report) == 0);
+        expected[2 + 2 * pollutant] = 2;
+        expected[3 + 2 * pollutant] = 3;
+        CHECK(same(report, expected, 28));
+    }
+}
+
 /* Document 01's example in both sizes; the bytes that are not typed are zero. */
 #define EXAMPLE_LIMIT {1, 4, 3, 0, 150}
 #define EXAMPLE_ENGINE {2, 0, 0, 0, 0, 0, 0, 0, 0, 0, 0, 0, 0, 0, 0, 0, 140}
@@ -1118,7 +1394,7 @@ static void longest_converted(void)
     longest_sheet();
     CHECK(report_on(buffer, used, report, sizeof report) == 0);
     check_converted(report);
-    CHECK(convert(20, buffer, used, 1063) == code_of(CONFORMITY_REFUSED_CONVERTED_OUTPUT, 0));
+    CHECK(convert(20, buffer, used, 1091) == code_of(CONFORMITY_REFUSED_CONVERTED_OUTPUT, 0));
 }
 
 /* After the sheet's own refusals and before 32, also where no engine is on the sheet yet. */
@@ -1243,11 +1519,12 @@ int main(void)
     readers();
     sized_readers();
     codes();
-    small_engine_texts();
+    later_texts();
     sized_texts();
     each_way();
     report_of_six();
     each_pollutant();
+    each_run_in_value();
     converted_example();
     converted_beginnings();
     longest_converted();

@@ -3,8 +3,9 @@
  *
  * A series of engines is tested one engine at a time until the measurements
  * decide: the series passes, fails, or is referred to the authority. The rules
- * are those of Directive 96/1/EC, sections 8.1.1.1.1 and 8.1.1.1.3 and Appendices
- * 1 to 3 (production), and of COM(97) 77, Appendix 1 (vehicles in service).
+ * are those of Directive 96/1/EC, sections 8.1.1.1.1, 8.1.1.1.3 and 8.1.1.2.2 and
+ * Appendices 1 to 3 (production), and of COM(97) 77, Appendix 1 (vehicles in
+ * service).
  *
  * The caller keeps a SHEET: records of 20 bytes, or with six pollutants of 28
  * bytes (TWO SIZES, below), one after another, in memory of its own. Two functions
@@ -105,15 +106,15 @@ extern "C" {
 /* ---- Sizes and ranges --------------------------------------------------- */
 
 #define CONFORMITY_RECORD_SIZE 20 /* bytes of a record */
-#define CONFORMITY_RECORDS_MAX 38 /* 4 pollutants, a small engine, 32 engines and a stop */
-#define CONFORMITY_SHEET_MAX 760  /* bytes of the longest sheet */
+#define CONFORMITY_RECORDS_MAX 39 /* 4 pollutants, small engine, run-in, 32 engines, stop */
+#define CONFORMITY_SHEET_MAX 780  /* bytes of the longest sheet */
 #define CONFORMITY_REPORT_SIZE 20 /* bytes of a report */
-#define CONFORMITY_POLLUTANTS 4   /* measurements in an engine's record */
+#define CONFORMITY_POLLUTANTS 4   /* measurements in an engine's or a run-in record */
 
 /* The same for 28-byte records. Memory of these lengths serves both sizes. */
 #define CONFORMITY_RECORD_SIZE_28 28
-#define CONFORMITY_RECORDS_MAX_28 40 /* 6 pollutants, a small engine, 32 engines and a stop */
-#define CONFORMITY_SHEET_MAX_28 1120
+#define CONFORMITY_RECORDS_MAX_28 41 /* 6 pollutants, small engine, run-in, 32 engines, stop */
+#define CONFORMITY_SHEET_MAX_28 1148
 #define CONFORMITY_REPORT_SIZE_28 28
 #define CONFORMITY_POLLUTANTS_28 6
 
@@ -132,15 +133,17 @@ extern "C" {
 /*
  * The order of records: one pollutant record for each declared pollutant, by
  * rising number and all of one plan; then, for engines whose particulate limit
- * depends on their size and the date, one small engine, not in plan 4; then the
- * engines as they are tested; then, if the manufacturer stops testing, one stop,
- * after which nothing follows. A sheet may end after any record.
+ * depends on their size and the date, one small engine, not in plan 4; then, where
+ * the first engine is run in and the others are corrected by it, its run-in values,
+ * not in plan 4; then the engines as they are tested; then, if the manufacturer stops
+ * testing, one stop, after which nothing follows. A sheet may end after any record.
  */
 enum conformity_kind {
-    CONFORMITY_KIND_POLLUTANT = 1,   /* a pollutant with its limit */
-    CONFORMITY_KIND_ENGINE = 2,      /* an engine, or in plan 4 a vehicle */
-    CONFORMITY_KIND_STOP = 3,        /* testing stopped by the manufacturer */
-    CONFORMITY_KIND_SMALL_ENGINE = 5 /* what the particulate limit depends on */
+    CONFORMITY_KIND_POLLUTANT = 1,    /* a pollutant with its limit */
+    CONFORMITY_KIND_ENGINE = 2,       /* an engine, or in plan 4 a vehicle */
+    CONFORMITY_KIND_STOP = 3,         /* testing stopped by the manufacturer */
+    CONFORMITY_KIND_SMALL_ENGINE = 5, /* what the particulate limit depends on */
+    CONFORMITY_KIND_RUN_IN = 6        /* the first engine's values after running-in */
 };
 
 enum conformity_pollutant {
@@ -194,18 +197,17 @@ enum conformity_decision {
  *
  *     refusal number * 256 + record
  *
- * where the record is counted from 0. Refusals 2 to 12 and 16 to 18 name a record;
+ * where the record is counted from 0. Refusals 2 to 12 and 16 to 19 name a record;
  * 1, 13 to 15 and those from 20 on name none, and the record is 0. A sheet is refused
  * for its first faulty record, and for the number that applies to it and comes first
- * in the order 2, 3, 16, 17, 18, 4, 5, .. 12. No refusal has the numbers 19 and 23
- * to 29.
+ * in the order 2, 3, 16, 17, 18, 19, 4, 5, .. 12. No refusal has the numbers 23 to 29.
  *
  * A number in brackets stands, for 28-byte records, in place of the one before it.
  */
 enum conformity_refusal {
-    /* The sheet is empty, not a whole number of records, or longer than 760 (1,120) bytes. */
+    /* The sheet is empty, not a whole number of records, or longer than 780 (1,148) bytes. */
     CONFORMITY_REFUSED_LENGTH = 1,
-    /* The record's kind is not 1, 2, 3 or 5. */
+    /* The record's kind is not 1, 2, 3, 5 or 6. */
     CONFORMITY_REFUSED_KIND = 2,
     /* The first record is no pollutant, a pollutant follows another kind, or a record follows the
        stop. */
@@ -218,7 +220,8 @@ enum conformity_refusal {
     CONFORMITY_REFUSED_LIMIT = 6,
     /* The deviation is not 1 to 4,000,000 in plan 1, or not 0 in another plan. */
     CONFORMITY_REFUSED_DEVIATION = 7,
-    /* A measurement is not 1 to 9,999,999, or one of an undeclared pollutant is not 0. */
+    /* A measurement is not 1 to 9,999,999, or one of an undeclared pollutant is not 0; of an engine
+       or of run-in values. */
     CONFORMITY_REFUSED_MEASUREMENT = 8,
     /* The cause is not 1 to 65,534 for a gross emitter in plan 4, or not 0 for any other engine. */
     CONFORMITY_REFUSED_CAUSE = 9,
@@ -242,6 +245,8 @@ enum conformity_refusal {
     /* The particulate limit is declared and not the one for the volume, speed and date: 250 or
        150. */
     CONFORMITY_REFUSED_PARTICULATE_LIMIT = 18,
+    /* The run-in record is a second one, follows an engine, or is in plan 4. */
+    CONFORMITY_REFUSED_RUN_IN = 19,
     /* declared: there are no tests, or more than 3. */
     CONFORMITY_REFUSED_TESTS = 20,
     /* declared: the declared value or a test is not 1 to 9,999,999. */
@@ -269,9 +274,9 @@ enum conformity_refusal {
  * Otherwise no byte has changed, and the refusal is the first of these:
  *     14                 the record is not 20 bytes
  *     13                 no room for it
- *     1 to 12, 16 to 18  the sheet that was there is refused (not looked at if
+ *     1 to 12, 16 to 19  the sheet that was there is refused (not looked at if
  *                        used is 0)
- *     1 to 12, 16 to 18  the sheet with the record added would be refused; the
+ *     1 to 12, 16 to 19  the sheet with the record added would be refused; the
  *                        record named is then the new one, used / 20 (for
  *                        refusal 1, as always, 0)
  *
@@ -288,7 +293,7 @@ uint32_t conformity_append(uint8_t *buffer, size_t buffer_length, size_t used,
  * have not changed. Otherwise no byte has changed, and the refusal is the first
  * of these:
  *     15                 the output is shorter than 20 bytes
- *     1 to 12, 16 to 18  the sheet is refused
+ *     1 to 12, 16 to 19  the sheet is refused
  */
 uint32_t conformity_report(const uint8_t *sheet, size_t sheet_length,
                            uint8_t *output, size_t output_length);
@@ -314,7 +319,7 @@ uint32_t conformity_report_sized(size_t size, const uint8_t *sheet, size_t sheet
  * have not changed. Otherwise no byte has changed, and the refusal is the first of
  * these:
  *     30                 the size is not 20 or 28
- *     1 to 12, 16 to 18  the sheet is refused
+ *     1 to 12, 16 to 19  the sheet is refused
  *     31                 from 28 to 20 bytes: the sheet declares pollutant 5 or 6
  *     32                 the output is shorter than the converted sheet
  */
@@ -346,7 +351,8 @@ uint32_t conformity_declared(uint32_t declared, const uint32_t *tests, size_t co
 
 /* ---- The two sizes ------------------------------------------------------ */
 
-/* The measurements in an engine's record of this size; 0 where the size is not 20 or 28. */
+/* The measurements in an engine's or a run-in record of this size; 0 where the size is not 20 or
+   28. */
 static inline uint32_t conformity_pollutants(size_t size)
 {
     return size == CONFORMITY_RECORD_SIZE      ? CONFORMITY_POLLUTANTS
@@ -392,9 +398,9 @@ static inline const char *conformity_refusal_text(uint32_t number)
     case 0:
         return "nothing was refused";
     case CONFORMITY_REFUSED_LENGTH:
-        return "the sheet is empty, not a whole number of records, or longer than 760 bytes";
+        return "the sheet is empty, not a whole number of records, or longer than 780 bytes";
     case CONFORMITY_REFUSED_KIND:
-        return "the record's kind is not 1, 2, 3 or 5";
+        return "the record's kind is not 1, 2, 3, 5 or 6";
     case CONFORMITY_REFUSED_ORDER:
         return "the first record is no pollutant, a pollutant follows another kind, "
                "or a record follows the stop";
@@ -430,6 +436,8 @@ static inline const char *conformity_refusal_text(uint32_t number)
         return "the date is no day of the years 1 to 9999";
     case CONFORMITY_REFUSED_PARTICULATE_LIMIT:
         return "the particulate limit is not the one for the volume, speed and date: 250 or 150";
+    case CONFORMITY_REFUSED_RUN_IN:
+        return "the run-in record is a second one, follows an engine, or is in plan 4";
     case CONFORMITY_REFUSED_TESTS:
         return "there are no tests, or more than 3";
     case CONFORMITY_REFUSED_VALUE:
@@ -453,7 +461,7 @@ static inline const char *conformity_refusal_text_sized(size_t size, uint32_t nu
     if (size == CONFORMITY_RECORD_SIZE_28) {
         switch (number) {
         case CONFORMITY_REFUSED_LENGTH:
-            return "the sheet is empty, not a whole number of records, or longer than 1120 bytes";
+            return "the sheet is empty, not a whole number of records, or longer than 1148 bytes";
         case CONFORMITY_REFUSED_POLLUTANT:
             return "the pollutant number is not 1 to 6, or not above the one before";
         case CONFORMITY_REFUSED_RECORD:
@@ -509,6 +517,16 @@ static inline int conformity_begin_(size_t size, uint8_t *record, uint8_t kind)
         record[i] = 0;
     }
     return 1;
+}
+
+/* For the builders: the measurements of a record that has begun, from byte 4 on. */
+static inline void conformity_put_measurements_(size_t size, uint8_t *record,
+                                                const uint32_t *measurements)
+{
+    uint32_t i;
+    for (i = 0; i < conformity_pollutants(size); i++) {
+        conformity_put_(record + 4 + 4 * i, 4, measurements[i]);
+    }
 }
 
 /*
@@ -588,6 +606,33 @@ static inline void conformity_small_engine_record(uint8_t record[CONFORMITY_RECO
 }
 
 /*
+ * The first engine's values after running-in, by which every engine is corrected
+ * (96/1/EC, 8.1.1.2.2). At most once on a sheet, after the pollutants and the small
+ * engine if there is one, before the first engine. Not in plan 4.
+ *     values  conformity_pollutants(size) of them, laid out and in range as an
+ *             engine's measurements are: values[pollutant - 1]; 0 for a pollutant that
+ *             the sheet does not declare
+ * The engines' records then hold what was measured at zero hours, the first engine's
+ * too. Of each pollutant every engine counts as its measurement * value / the first
+ * engine's measurement, so that the first one counts as its value after running-in.
+ * Nothing is divided: plans 1, 2 and 5 add and subtract logarithms, and plan 3
+ * compares measurement * value with limit * the first engine's measurement.
+ */
+static inline void conformity_run_in_record_sized(size_t size, uint8_t *record,
+                                                  const uint32_t *values)
+{
+    if (conformity_begin_(size, record, CONFORMITY_KIND_RUN_IN)) {
+        conformity_put_measurements_(size, record, values);
+    }
+}
+
+static inline void conformity_run_in_record(uint8_t record[CONFORMITY_RECORD_SIZE],
+                                            const uint32_t values[CONFORMITY_POLLUTANTS])
+{
+    conformity_run_in_record_sized(CONFORMITY_RECORD_SIZE, record, values);
+}
+
+/*
  * An engine, or in plan 4 a vehicle.
  *     cause         plan 4: what made a gross emitter one, as numbered by the
  *                   caller, 1 to CONFORMITY_CAUSE_MAX; equal causes, equal
@@ -602,12 +647,9 @@ static inline void conformity_small_engine_record(uint8_t record[CONFORMITY_RECO
 static inline void conformity_engine_record_sized(size_t size, uint8_t *record, uint32_t cause,
                                                   const uint32_t *measurements)
 {
-    uint32_t i;
     if (conformity_begin_(size, record, CONFORMITY_KIND_ENGINE)) {
         conformity_put_(record + 2, 2, conformity_at_most_(cause, 0xffffu));
-        for (i = 0; i < conformity_pollutants(size); i++) {
-            conformity_put_(record + 4 + 4 * i, 4, measurements[i]);
-        }
+        conformity_put_measurements_(size, record, measurements);
     }
 }
 

@@ -54,8 +54,8 @@ static void small_engine(uint32_t volume, uint32_t speed, uint32_t date) {
     fill();
 }
 
-static void four_measurements(uint32_t cause, uint32_t co, uint32_t hc, uint32_t nox, uint32_t pm) {
-    byte(2);
+static void four_measurements(uint32_t kind, uint32_t cause, uint32_t co, uint32_t hc, uint32_t nox, uint32_t pm) {
+    byte(kind);
     byte(0);
     two(cause);
     four(co);
@@ -65,15 +65,36 @@ static void four_measurements(uint32_t cause, uint32_t co, uint32_t hc, uint32_t
 }
 
 static void engine(uint32_t cause, uint32_t co, uint32_t hc, uint32_t nox, uint32_t pm) {
-    four_measurements(cause, co, hc, nox, pm);
+    four_measurements(2, cause, co, hc, nox, pm);
     fill();
 }
 
 /* In a 28-byte record. */
 static void engine_of_six(uint32_t cause, uint32_t co, uint32_t hc, uint32_t nox, uint32_t pm, uint32_t fifth, uint32_t sixth) {
-    four_measurements(cause, co, hc, nox, pm);
+    four_measurements(2, cause, co, hc, nox, pm);
     four(fifth);
     four(sixth);
+}
+
+/* "Record kind 6": the first engine's values after running-in, "laid out as measurements". */
+static void run_in(uint32_t co, uint32_t hc, uint32_t nox, uint32_t pm) {
+    four_measurements(6, 0, co, hc, nox, pm);
+    fill();
+}
+
+/* In a 28-byte record. */
+static void run_in_of_six(uint32_t co, uint32_t hc, uint32_t nox, uint32_t pm, uint32_t fifth, uint32_t sixth) {
+    four_measurements(6, 0, co, hc, nox, pm);
+    four(fifth);
+    four(sixth);
+}
+
+/* An engine or run-in values, the same of every pollutant. */
+static void all_measure(uint32_t kind, uint32_t x) {
+    byte(kind);
+    byte(0);
+    two(0);
+    while (length % record_size != 0) four(x);
 }
 
 /* Engines measured for pollutant 1 alone. */
@@ -205,8 +226,11 @@ static void on_a_line(void) {
     sample("stop-at-0", "fail 0 3\n1 open 0\n");
 }
 
-/* Document 02, F-6: the same series of limit 2000 under plan 5, the corrected sheet, and under plan 2. */
-static void corrected(void) {
+/* Document 02, F-6: the same series of limit 2000 under plan 5, the corrected sheet, and under plan 2. Run in, each engine
+   counts for half of what it measured, which is half of the limit too: the logarithms' differences stay. */
+static void corrected(int is_run_in) {
+    const char *beginning = is_run_in ? "run-in-" : "";
+    uint32_t limit = is_run_in ? 1000 : 2000;
     static const struct {
         uint32_t plan;
         const char *first, *last;
@@ -217,15 +241,17 @@ static void corrected(void) {
     for (int i = 0; i < 2; i++) {
         char name[32];
         /* 2000, then fifteen times 4000, 1000 */
-        pollutant(1, answers[i].plan, 2000, 0);
+        pollutant(1, answers[i].plan, limit, 0);
+        if (is_run_in) run_in(1000, 0, 0, 0);
         measured(1, 2000);
         pairs(15);
-        snprintf(name, sizeof name, "plan-%u-row-31", answers[i].plan);
+        snprintf(name, sizeof name, "%splan-%u-row-31", beginning, answers[i].plan);
         sample(name, answers[i].first);
         /* sixteen times 4000, 1000 */
-        pollutant(1, answers[i].plan, 2000, 0);
+        pollutant(1, answers[i].plan, limit, 0);
+        if (is_run_in) run_in(2000, 0, 0, 0);
         pairs(16);
-        snprintf(name, sizeof name, "plan-%u-row-32", answers[i].plan);
+        snprintf(name, sizeof name, "%splan-%u-row-32", beginning, answers[i].plan);
         sample(name, answers[i].last);
     }
 }
@@ -235,6 +261,27 @@ static void finer(void) {
     three("finer-9000001", 2, 9000000, 0, 9000001, PASS_AT_3);
     three("finer-9000002", 2, 9000000, 0, 9000002, FAIL_AT_3);
     three("finer-9000010", 2, 9000000, 0, 9000010, FAIL_AT_3);
+}
+
+/* A sheet of every pollutant and as many engines as there are rows. T is 0, which only the numbers of row 32 pass; run in,
+   an engine at twice the limit counts for the limit. The stop comes after the decision. */
+static void longest_of(const char *name, uint32_t limit, int has_small_engine, int has_run_in) {
+    int is_of_four = record_size == 20;
+    for (uint32_t p = 1; p <= (is_of_four ? 4 : 6); p++) pollutant(p, 1, limit, 1);
+    if (has_small_engine) small_engine(700, 3000, 19981001);
+    if (has_run_in) all_measure(6, limit);
+    for (int n = 1; n <= 32; n++) all_measure(2, has_run_in ? 2 * limit : limit);
+    stop();
+    sample(name, is_of_four ? "pass 32 1\n1 pass 32\n2 pass 32\n3 pass 32\n4 pass 32\n"
+                            : "pass 32 1\n1 pass 32\n2 pass 32\n3 pass 32\n4 pass 32\n5 pass 32\n6 pass 32\n");
+}
+
+/* Of 37 records, 38 and 39, in records of 28 bytes 39, 40 and 41. */
+static void longest(void) {
+    longest_of("longest-without-either", 1000, 0, 0);
+    longest_of("longest-without-run-in", 150, 1, 0);
+    longest_of("longest-without-small-engine", 150, 0, 1);
+    longest_of("longest", 150, 1, 1);
 }
 
 /* The grounds, rows and lines that the lists above leave out. */
@@ -275,19 +322,6 @@ static void others(void) {
     for (int n = 1; n <= 19; n++) measured(1, n % 2 == 0 ? 151 : 150);
     sample("attributes-9-of-19", "fail 19 1\n1 fail 19\n");
 
-    /* The longest sheet without a small engine, 37 records: T is 0, which only the numbers of row 32 pass. The stop comes
-       after the decision. */
-    for (uint32_t p = 1; p <= 4; p++) pollutant(p, 1, 1000, 1);
-    for (int n = 1; n <= 32; n++) engine(0, 1000, 1000, 1000, 1000);
-    stop();
-    sample("longest-without-small-engine", "pass 32 1\n1 pass 32\n2 pass 32\n3 pass 32\n4 pass 32\n");
-    /* The longest sheet, 38 records, decided as the one without is. */
-    for (uint32_t p = 1; p <= 4; p++) pollutant(p, 1, 150, 1);
-    small_engine(700, 3000, 19981001);
-    for (int n = 1; n <= 32; n++) engine(0, 150, 150, 150, 150);
-    stop();
-    sample("longest", "pass 32 1\n1 pass 32\n2 pass 32\n3 pass 32\n4 pass 32\n");
-
     /* "Engines after the decision are checked and counted for nothing." */
     pollutant(1, 2, 4000, 0);
     measured(3, 4000);
@@ -312,8 +346,8 @@ static void refusals(void) {
     length--;
     refused("refused-01-not-whole", 1, 0, NULL);
     pollutant(1, 1, 4000, 625020);
-    measured(38, 2000);
-    refused("refused-01-39-records", 1, 0, NULL);
+    measured(39, 2000);
+    refused("refused-01-40-records", 1, 0, NULL);
     pollutant(1, 1, 4000, 625020);
     measured(399, 2000);
     refused("refused-01-400-records", 1, 0, NULL);
@@ -352,8 +386,8 @@ static void refusals(void) {
     measured(20, 150);
     refused("refused-10", 10, 20, "engine 20");
     pollutant(1, 1, 4000, 625020);
-    measured(37, 2000);
-    refused("refused-10-38-records", 10, 33, "engine 33");
+    measured(38, 2000);
+    refused("refused-10-39-records", 10, 33, "engine 33");
     pollutant(1, 4, 10000, 0);
     stop();
     refused("refused-11", 11, 1, "stop");
@@ -450,6 +484,153 @@ static void misplaced_small_engines(void) {
     refused("refused-16-plan-4", 16, 1, "small engine");
 }
 
+/* Pollutant 1 with a limit, and the first engine's value after running-in. */
+static void run_in_of(uint32_t plan, uint32_t limit, uint32_t deviation, uint32_t value) {
+    pollutant(1, plan, limit, deviation);
+    run_in(value, 0, 0, 0);
+}
+
+/* The same and engines: x_1, x_2, x_3 and, where it is not 0, x_4. */
+static void run_in_series(const char *name, uint32_t plan, uint32_t limit, uint32_t deviation, uint32_t value,
+                          const uint32_t x[4], const char *lines) {
+    run_in_of(plan, limit, deviation, value);
+    for (int i = 0; i < 4 && x[i] != 0; i++) measured(1, x[i]);
+    sample(name, lines);
+}
+#define ENGINES(...) (const uint32_t[4]){__VA_ARGS__}
+#define PASS_AT_4 "pass 4 1\n1 pass 4\n"
+#define ANOTHER_AT_4 "another 4 0\n1 open 0\n"
+
+/* Document 02, F-2, in records of either size. Plan 3 compares x_j * value with L * x_1; in the others d_j is g(x_j) +
+   g(value) - g(x_1) - g(L). */
+static void run_ins(void) {
+    /* x_j * 90 > 100 * 100: 9,000, 9,900, 9,990 and 9,990 are not above 10,000, and 10,080 is. */
+    run_in_series("run-in-attributes-111", 3, 100, 0, 90, ENGINES(100, 110, 111, 111), PASS_AT_4);
+    run_in_series("run-in-attributes-112", 3, 100, 0, 90, ENGINES(100, 110, 111, 112), ANOTHER_AT_4);
+
+    /* Each engine counts for half of the limit, as those at 2000 do, or for twice the limit. */
+    run_in_series("run-in-known-625020", 1, 4000, 625020, 2000, ENGINES(4000, 4000, 4000), PASS_AT_3);
+    run_in_series("run-in-known-625021", 1, 4000, 625021, 2000, ENGINES(4000, 4000, 4000), ANOTHER_AT_3);
+    run_in_series("run-in-known-440186", 1, 4000, 440186, 8000, ENGINES(4000, 4000, 4000), FAIL_AT_3);
+    run_in_series("run-in-known-440187", 1, 4000, 440187, 8000, ENGINES(4000, 4000, 4000), ANOTHER_AT_3);
+
+    /* Straight after it: "Pollutants and no engine", "a stop straight after the pollutants". */
+    run_in_of(1, 4000, 625020, 2000);
+    sample("run-in-no-engine", "another 0 0\n1 open 0\n");
+    run_in_of(1, 4000, 625020, 2000);
+    stop();
+    sample("run-in-stop-at-0", "fail 0 3\n1 open 0\n");
+
+    /* Behind a small engine: 140 * 250 is not above 250 * 140. */
+    small_engine_of(250, 699, 3001, 19980930);
+    run_in(0, 0, 0, 250);
+    particulates(4, 140);
+    sample("run-in-small-engine", "pass 4 1\n4 pass 4\n");
+
+    run_in_of(3, 100, 0, 90);
+    run_in(90, 0, 0, 0);
+    refused("refused-19-second", 19, 2, "run-in values");
+    run_in_of(3, 100, 0, 90);
+    sheet[record_size + 1] = 1;
+    refused("refused-12-run-in", 12, 1, "run-in values");
+    pollutant(1, 3, 100, 0);
+    run_in(90, 1, 0, 0);
+    refused("refused-08-run-in", 8, 1, "run-in values");
+}
+
+/* The other lines, and what is particular to running-in. */
+static void run_ins_on_a_line(void) {
+    /* Plan 2, run in to half: 4000, 4000, 4000 and 4000, 4000, 2000; to twice: 8000, 8000, 8000 and 8000, 8000, 16000. */
+    run_in_series("run-in-unknown-8000-8000-8000", 2, 4000, 0, 4000, ENGINES(8000, 8000, 8000), PASS_AT_3);
+    run_in_series("run-in-unknown-8000-8000-4000", 2, 4000, 0, 4000, ENGINES(8000, 8000, 4000), ANOTHER_AT_3);
+    run_in_series("run-in-unknown-4000-4000-4000", 2, 4000, 0, 8000, ENGINES(4000, 4000, 4000), FAIL_AT_3);
+    run_in_series("run-in-unknown-4000-4000-8000", 2, 4000, 0, 8000, ENGINES(4000, 4000, 8000), ANOTHER_AT_3);
+
+    /* Engines that are equal count for the value alone: its logarithm is that of the limit, or above it. */
+    run_in_series("run-in-finer-9000001", 2, 9000000, 0, 9000001, ENGINES(5000000, 5000000, 5000000), PASS_AT_3);
+    run_in_series("run-in-finer-9000002", 2, 9000000, 0, 9000002, ENGINES(5000000, 5000000, 5000000), FAIL_AT_3);
+
+    /* d is -117,939, -81,485 and -193,593, T is 393,017. */
+    run_in_series("run-in-known-78087", 1, 4000, 78087, 3700, ENGINES(4100, 4200, 3900), PASS_AT_3);
+    run_in_series("run-in-known-78088", 1, 4000, 78088, 3700, ENGINES(4100, 4200, 3900), ANOTHER_AT_3);
+
+    /* A lower first engine raises what the others count for: "lowering keeps its meaning there if the first engine's
+       zero-hour values are the same in both sheets". */
+    run_in_series("run-in-2-1-1-2", 3, 1, 0, 1, ENGINES(2, 1, 1, 2), PASS_AT_4);
+    run_in_series("run-in-1-1-1-2", 3, 1, 0, 1, ENGINES(1, 1, 1, 2), ANOTHER_AT_4);
+
+    /* The greatest products: equal ones are not above the limit; of those above it two, three and four of 3, 4 and 5 fail
+       at 5. */
+    run_in_of(3, 9999999, 0, 9999999);
+    measured(4, 9999998);
+    sample("run-in-greatest", PASS_AT_4);
+    run_in_of(3, 9999999, 0, 9999999);
+    measured(1, 9999998);
+    measured(4, 9999999);
+    sample("run-in-greatest-over", "fail 5 1\n1 fail 5\n");
+
+    /* Products of more than 32 bits: x_j * v is 4,294,967,295, of engine 1 less, and L * x_1 is 4,294,967,296; then x_j * v
+       is 4,294,967,296, of engine 1 more, and L * x_1 is 4,294,967,295. */
+    run_in_series("run-in-wide", 3, 65536, 0, 65535, ENGINES(65536, 65537, 65537, 65537), PASS_AT_4);
+    run_in_series("run-in-wide-over", 3, 65535, 0, 65536, ENGINES(65537, 65536, 65536), FAIL_AT_3);
+
+    /* Each pollutant by its own value: as above of pollutant 1; of particulates x_j * 160 > 150 * 140 from 132 on, which
+       are two, three and four of 3, 4 and 5. */
+    pollutant(1, 3, 100, 0);
+    pollutant(4, 3, 150, 0);
+    run_in(90, 0, 0, 160);
+    engine(0, 100, 0, 0, 140);
+    engine(0, 110, 0, 0, 131);
+    engine(0, 111, 0, 0, 132);
+    engine(0, 111, 0, 0, 132);
+    engine(0, 112, 0, 0, 132);
+    sample("run-in-two-pollutants", "fail 5 1\n1 pass 4\n4 fail 5\n");
+}
+
+/* Where run-in values stand, before the first engine, once, and not in plan 4; and what is asked of them. */
+static void refused_run_ins(void) {
+    run_in_of(3, 100, 0, 90);
+    sheet[20] = 7;
+    refused("refused-02-kind-7", 2, 1, "kind 7");
+    run_in(90, 0, 0, 0);
+    refused("refused-03-run-in-first", 3, 0, "run-in values");
+    pollutant(1, 3, 100, 0);
+    stop();
+    run_in(90, 0, 0, 0);
+    refused("refused-03-run-in-after-stop", 3, 2, "run-in values");
+    run_in_of(3, 100, 0, 90);
+    pollutant(2, 3, 100, 0);
+    refused("refused-03-pollutant-after-run-in", 3, 2, "pollutant 2");
+    run_in_of(3, 100, 0, 90);
+    small_engine(699, 3001, 19980930);
+    refused("refused-16-after-run-in", 16, 2, "small engine");
+    pollutant(1, 3, 100, 0);
+    measured(1, 100);
+    run_in(90, 0, 0, 0);
+    refused("refused-19-after-engine", 19, 2, "run-in values");
+    /* The value is 0 and byte 1 is not: 19 comes before 8 and 12. */
+    run_in_of(4, 100, 0, 0);
+    sheet[21] = 1;
+    refused("refused-19-plan-4", 19, 1, "run-in values");
+    /* 8 comes before 12. */
+    run_in_of(3, 100, 0, 0);
+    sheet[21] = 1;
+    refused("refused-08-run-in-0", 8, 1, "run-in values");
+    run_in_of(3, 100, 0, 10000000);
+    refused("refused-08-run-in-10000000", 8, 1, "run-in values");
+    /* Where an engine has its cause. */
+    run_in_of(3, 100, 0, 90);
+    sheet[22] = 1;
+    refused("refused-12-run-in-byte-2", 12, 1, "run-in values");
+    run_in_of(3, 100, 0, 90);
+    sheet[23] = 1;
+    refused("refused-12-run-in-byte-3", 12, 1, "run-in values");
+    /* They are no engine. */
+    run_in_of(3, 150, 0, 150);
+    measured(20, 150);
+    refused("refused-10-run-in", 10, 21, "engine 20");
+}
+
 /* Document 02, F-10: records of 28 bytes. */
 static void six_pollutants(void) {
     pollutant(1, 3, 100, 0);
@@ -484,39 +665,43 @@ static void six_pollutants(void) {
     engine_of_six(0, 900, 0, 0, 0, 1500, 1500);
     sample("gross-by-5-and-6", "fail 3 2\n1 open 0\n5 open 0\n6 open 0\n");
 
-    /* The longest sheets without a small engine, 39 records, and with one, 40, decided as those of 20-byte records are. */
-    for (uint32_t p = 1; p <= 6; p++) pollutant(p, 1, 1000, 1);
-    for (int n = 1; n <= 32; n++) engine_of_six(0, 1000, 1000, 1000, 1000, 1000, 1000);
-    stop();
-    sample("longest-without-small-engine",
-           "pass 32 1\n1 pass 32\n2 pass 32\n3 pass 32\n4 pass 32\n5 pass 32\n6 pass 32\n");
-    for (uint32_t p = 1; p <= 6; p++) pollutant(p, 1, 150, 1);
-    small_engine(700, 3000, 19981001);
-    for (int n = 1; n <= 32; n++) engine_of_six(0, 150, 150, 150, 150, 150, 150);
-    stop();
-    sample("longest", "pass 32 1\n1 pass 32\n2 pass 32\n3 pass 32\n4 pass 32\n5 pass 32\n6 pass 32\n");
+    /* Run in: x_j * 45 > 50 * 50 from 56 on, of pollutant 6. */
+    for (uint32_t sixth = 55; sixth <= 56; sixth++) {
+        pollutant(1, 3, 100, 0);
+        pollutant(6, 3, 50, 0);
+        run_in_of_six(90, 0, 0, 0, 0, 45);
+        engine_of_six(0, 100, 0, 0, 0, 0, 50);
+        engine_of_six(0, 110, 0, 0, 0, 0, 55);
+        engine_of_six(0, 111, 0, 0, 0, 0, 55);
+        engine_of_six(0, 111, 0, 0, 0, 0, sixth);
+        if (sixth == 55) sample("run-in-six-pollutants", "pass 4 1\n1 pass 4\n6 pass 4\n");
+        else sample("run-in-sixth-open", "another 4 0\n1 pass 4\n6 open 0\n");
+    }
 }
 
-/* Refusals in which the size counts: of 41 records, but not of 40, the number itself is refused. */
+/* Refusals in which the size counts: of 42 records, but not of 41, the number itself is refused. */
 static void refusals_of_28(void) {
     refused_at("refused-01-no-bytes", 1, 0);
     pollutant(1, 1, 4000, 625020);
     length -= 8;
     refused_at("refused-01-20-bytes", 1, 0);
     pollutant(1, 1, 4000, 625020);
-    measured(40, 2000);
-    refused_at("refused-01-41-records", 1, 0);
+    measured(41, 2000);
+    refused_at("refused-01-42-records", 1, 0);
     pollutant(7, 3, 150, 0);
     refused_at("refused-04", 4, 0);
     pollutant(5, 3, 150, 0);
     engine_of_six(0, 0, 0, 0, 0, 150, 1);
     refused_at("refused-08", 8, 1);
+    pollutant(5, 3, 150, 0);
+    run_in_of_six(0, 0, 0, 0, 150, 1);
+    refused_at("refused-08-run-in-sixth", 8, 1);
     pollutant(6, 4, 1000, 0);
     engine_of_six(0, 0, 0, 0, 0, 0, 1501);
     refused_at("refused-09", 9, 1);
     pollutant(1, 1, 4000, 625020);
-    measured(39, 2000);
-    refused_at("refused-10-40-records", 10, 33);
+    measured(40, 2000);
+    refused_at("refused-10-41-records", 10, 33);
     pollutant(1, 3, 150, 0);
     sheet[27] = 1;
     refused_at("refused-12-pollutant", 12, 0);
@@ -534,17 +719,26 @@ int main(int count, char **words) {
     folder = words[1];
     example();
     on_a_line();
-    corrected();
+    corrected(0);
+    corrected(1);
     finer();
     others();
+    longest();
     refusals();
     small_engines();
     small_engines_on_a_line();
     misplaced_small_engines();
+    run_ins();
+    run_ins_on_a_line();
+    refused_run_ins();
     record_size = 28;
     example();
+    corrected(1);
     small_engines();
+    run_ins();
+    run_ins_on_a_line();
     six_pollutants();
+    longest();
     refusals_of_28();
     return 0;
 }

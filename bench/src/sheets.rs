@@ -47,6 +47,16 @@ pub fn with_small_engine(size: usize, sheet: &[u8]) -> Vec<u8> {
     [pollutant, &small_engine, engines].concat()
 }
 
+/// The sheet, with a record of kind 6 before its first engine. The run-in values are what that
+/// engine measured, so that the sheet is decided at the same engine.
+pub fn with_run_in(size: usize, sheet: &[u8]) -> Vec<u8> {
+    let pollutants = sheet.chunks_exact(size).take_while(|record| record[0] == 1);
+    let (pollutants, engines) = sheet.split_at(pollutants.count() * size);
+    let mut run_in = engines[..size].to_vec();
+    run_in[0] = 6;
+    [pollutants, &run_in, engines].concat()
+}
+
 /// A sheet of 37 records of 20 bytes whose last is refused, so that all are checked, none judged.
 pub fn refused_at_the_end() -> Vec<u8> {
     let mut sheet = full(FOUR_POLLUTANTS, 1, 32, 1).remove(0);

@@ -31,8 +31,17 @@ const GROWTH: f64 = 4.5;
 /// Full sheets of six pollutants by those of four, which have two thirds as many measurements.
 const SIX_BY_FOUR: f64 = 1.6;
 
-/// F-1: no small engine "in plan 4".
-const PLANS_WITH_SMALL_ENGINES: [u8; 4] = [1, 2, 3, 5];
+/// F-1 and F-2: no small engine and no run-in values "in plan 4".
+const PLANS_OF_PRODUCTION: [u8; 4] = [1, 2, 3, 5];
+
+/// Puts a record in.
+type PutIn = fn(usize, &[u8]) -> Vec<u8>;
+
+/// The records that are put into typical sheets.
+const PUT_IN: [(&str, PutIn); 2] = [
+    ("a small engine", sheets::with_small_engine),
+    ("run-in values", sheets::with_run_in),
+];
 
 /// The room for a report of either size.
 type Output = [u8; LONGEST_REPORT];
@@ -97,7 +106,7 @@ fn main() {
     print_agreement();
     print_reports();
     print_sizes();
-    print_small_engines();
+    print_put_in();
     print_growth();
     print_check();
     print_append();
@@ -234,30 +243,36 @@ fn print_size(title: &str, [four, six]: &[Vec<Vec<u8>>; 2], by_four: fn(f64) -> 
     );
 }
 
-/// Typical sheets of the plans that allow a small engine, by the same without its record.
-fn print_small_engines() {
-    println!("report of typical sheets with a small engine, time of the library by that of the same without:");
-    for plan in PLANS_WITH_SMALL_ENGINES {
-        let without = sheets::typical(FOUR_POLLUTANTS, plan, SHEETS);
-        let with = small_engine_sheets(FOUR_POLLUTANTS, plan);
-        let times = time(&mut [
-            &mut reporting(library_report, &with),
-            &mut reporting(library_report, &without),
-            &mut reporting(second_report_by::<FOUR_POLLUTANTS>, &with),
-        ]);
-        let by_second = against(times.ratio(0, 2), BY_SECOND);
-        let nanoseconds = times.seconds(0) / with.len() as f64 * 1e9;
+/// Typical sheets with a small engine or run-in values, by the same without that record.
+fn print_put_in() {
+    for (name, put_in) in PUT_IN {
         println!(
-            "  plan {plan}: {:5.2}, second {by_second} {nanoseconds:6.0} ns",
-            times.ratio(0, 1)
+            "report of typical sheets with {name}, time of the library by that of the same \
+             without:"
         );
+        for plan in PLANS_OF_PRODUCTION {
+            let without = sheets::typical(FOUR_POLLUTANTS, plan, SHEETS);
+            let with = typical_with(FOUR_POLLUTANTS, plan, put_in);
+            let times = time(&mut [
+                &mut reporting(library_report, &with),
+                &mut reporting(library_report, &without),
+                &mut reporting(second_report_by::<FOUR_POLLUTANTS>, &with),
+                &mut reporting(doubles, &with),
+            ]);
+            let by_second = against(times.ratio(0, 2), BY_SECOND);
+            let nanoseconds = times.seconds(0) / with.len() as f64 * 1e9;
+            println!(
+                "  plan {plan}: {:5.2}, second {by_second} doubles {:5.2} {nanoseconds:6.0} ns",
+                times.ratio(0, 1),
+                times.ratio(0, 3)
+            );
+        }
     }
 }
 
-fn small_engine_sheets(size: usize, plan: u8) -> Vec<Vec<u8>> {
+fn typical_with(size: usize, plan: u8, put_in: PutIn) -> Vec<Vec<u8>> {
     let typical = sheets::typical(size, plan, SHEETS);
-    let with_small_engine = |sheet: &Vec<u8>| sheets::with_small_engine(size, sheet);
-    typical.iter().map(with_small_engine).collect()
+    typical.iter().map(|sheet| put_in(size, sheet)).collect()
 }
 
 fn print_growth() {
@@ -395,9 +410,11 @@ impl Work {
 fn all_sheets(size: usize) -> Vec<Vec<u8>> {
     let full = (1..=PLANS).flat_map(|plan| full(size, plan));
     let typical = (1..=PLANS).flat_map(|plan| sheets::typical(size, plan, SHEETS));
-    let small_engines = PLANS_WITH_SMALL_ENGINES.into_iter();
-    let small_engines = small_engines.flat_map(|plan| small_engine_sheets(size, plan));
-    let mut sheets: Vec<Vec<u8>> = full.chain(typical).chain(small_engines).collect();
+    let put_in = PUT_IN.into_iter().flat_map(|(_, put_in)| {
+        let plans = PLANS_OF_PRODUCTION.into_iter();
+        plans.flat_map(move |plan| typical_with(size, plan, put_in))
+    });
+    let mut sheets: Vec<Vec<u8>> = full.chain(typical).chain(put_in).collect();
     if size == FOUR_POLLUTANTS {
         sheets.push(sheets::refused_at_the_end());
     }

@@ -2,7 +2,7 @@
 use Rattle.arithmetic.proofs.Basics.{ℕ, arith, _≡_, refl, sym, Bool, true, false, not, _&&_, cond, List, [], _∷_, _++_, append-assoc, append-nil, eqb, eqb-true}
 use Rattle.arithmetic.proofs.Basics.{ne-eqb, in-range, never, by-test, any-last}
 use Rattle.rules.specs.Tools.{within}
-use Rattle.rules.specs.Sheet.{Record, Pollutant, pollutantKind, engineKind, kind, cause, ofKind, engines, planNumber, declared, gross}
+use Rattle.rules.specs.Sheet.{Record, Pollutant, pollutantKind, engineKind, measures, kind, cause, ofKind, engines, planNumber, declared, gross}
 use Rattle.rules.specs.Plans.{inService, numberOf}
 use Rattle.rules.specs.Refusals.{misplaced, badMeasurement, badCause, greatestCause}
 use Rattle.accepted.proofs.Faultless.{Clean, faultless, isOther, ofKind-append, no-pollutants}
@@ -30,23 +30,27 @@ unfolding planNumber misplaced
 plan-append [] ts r e f = let z : true ≡ false = rw e at f in never z
 plan-append (b ∷ bs) ts r e f = refl
 
--- what holds of the engines, by what the check says of each: its measurements and its cause have no fault
-pub each-engine : (w : ℕ) (before rs : List Record) → Clean w before rs → (Q : List Record → Type 0) → Q []
-    → ((r : Record) (es : List Record) → badMeasurement w (declared (before ++ rs)) r ≡ false
-    → badCause (planNumber (before ++ rs)) (declared (before ++ rs)) r ≡ false → Q es → Q (r ∷ es))
-    → Q (ofKind engineKind rs)
+-- what holds of the records of another kind than a pollutant, by what the check says of each: its measurements and its cause have no fault
+pub each-of : (k : ℕ) → eqb k pollutantKind ≡ false → (w : ℕ) (before rs : List Record) → Clean w before rs → (Q : List Record → Type 0) → Q []
+    → ((r : Record) (es : List Record) → kind r ≡ k → (measures k ≡ true → badMeasurement w (declared (before ++ rs)) r ≡ false)
+    → (k ≡ engineKind → badCause (planNumber (before ++ rs)) (declared (before ++ rs)) r ≡ false) → Q es → Q (r ∷ es))
+    → Q (ofKind k rs)
 unfolding ofKind
-each-engine w before [] c Q none more = none
-each-engine w before (r ∷ rs) c Q none more =
-    let rest : Q (ofKind engineKind rs) = each-engine w (before ++ (r ∷ [])) rs (c .1) Q none (rw append-assoc more) in
-    by-test (λ t. Q (cond t (r ∷ ofKind engineKind rs) (ofKind engineKind rs))) (eqb (kind r) engineKind)
+each-of k other w before [] c Q none more = none
+each-of k other w before (r ∷ rs) c Q none more =
+    let rest : Q (ofKind k rs) = each-of k other w (before ++ (r ∷ [])) rs (c .1) Q none (rw append-assoc more) in
+    by-test (λ t. Q (cond t (r ∷ ofKind k rs) (ofKind k rs))) (eqb (kind r) k)
     (λ e.
     let f = faultless w before r (c .0) in
-    let o : eqb (kind r) pollutantKind ≡ false = rw (eqb-true (kind r) engineKind e) refl in
+    let i : kind r ≡ k = eqb-true (kind r) k e in
+    let o : eqb (kind r) pollutantKind ≡ false = rw i other in
     let z : ofKind pollutantKind (r ∷ rs) ≡ [] = rw o (no-pollutants w (before ++ (r ∷ [])) rs (any-last isOther before r (rw o refl)) (c .1)) in
     let d = declared-append before (r ∷ rs) z in
-    more r (ofKind engineKind rs) (rw d (f .measured e)) (rw (plan-append before (r ∷ rs) r o (f .placed), d) (f .caused e)) rest)
+    more r (ofKind k rs) i (λ m. rw d (f .measured (rw i m)))
+    (λ h. rw (plan-append before (r ∷ rs) r o (f .placed), d) (f .caused (rw (i, h) refl))) rest)
     (λ e. rest)
 
 pub causes : (w : ℕ) (rs : List Record) → Clean w [] rs → Caused (eqb (planNumber rs) (numberOf inService)) (declared rs) (engines rs)
-causes w rs c = each-engine w [] rs c (Caused (eqb (planNumber rs) (numberOf inService)) (declared rs)) tt (λ r es m f q. (cause-fine (planNumber rs) (declared rs) r f, q))
+causes w rs c =
+    each-of engineKind refl w [] rs c (Caused (eqb (planNumber rs) (numberOf inService)) (declared rs)) tt
+    (λ r es i m f q. (cause-fine (planNumber rs) (declared rs) r (f refl), q))

@@ -1,10 +1,10 @@
 -- The records of an accepted sheet, each of which has no fault after those before it.
 use Rattle.arithmetic.proofs.Basics.{ℕ, zero, suc, _*_, _%_, _≤_, arith, _≡_, refl, sym, ap, _∙_, Bool, true, false, not, _&&_, _||_, cond, List, [], _∷_, _++_}
 use Rattle.arithmetic.proofs.Basics.{append-assoc, append-nil, eqb, leb, ltb, length, eqb-true, eqb-false, not-false, ne-eqb, lt-leb, ltb-false}
-use Rattle.arithmetic.proofs.Basics.{never, or-false, and-left, and-right, and-never, by-test, any-left, any-last, those-append}
+use Rattle.arithmetic.proofs.Basics.{never, or-false, and-left, and-right, and-never, by-test, any-left, any-last, any-or, those-append}
 use Rattle.rules.specs.Tools.{any}
-use Rattle.rules.specs.Sheet.{Record, size, most, records, pollutantKind, engineKind, stopKind, smallEngineKind, kind, ofKind, heading, planNumber, declared, stopped}
-use Rattle.rules.specs.Refusals.{isKind, misplaced, lastKind, badSmallEngine, badNumber, badPlan, badLimit, badDeviation, badMeasurement, badCause, tooMany, unused, Fault, fault, first, faults, faultOf}
+use Rattle.rules.specs.Sheet.{Record, size, most, records, pollutantKind, engineKind, stopKind, smallEngineKind, runInKind, measures, kind, ofKind, heading, planNumber, declared, stopped}
+use Rattle.rules.specs.Refusals.{isKind, misplaced, lastKind, badSmallEngine, badRunIn, badNumber, badPlan, badLimit, badDeviation, badMeasurement, badCause, tooMany, unused, Fault, fault, first, faults, faultOf}
 use Rattle.rules.specs.Refusals.{Check, accepted, refused, checkFrom, badLength, check}
 
 -- ---- each record has no fault after those before it
@@ -82,11 +82,12 @@ pub record Faultless (w : ℕ) (before : List Record) (r : Record) : Type 0 wher
   pub kinds : not (isKind (kind r)) ≡ false
   pub placed : misplaced before r ≡ false
   pub small : eqb (kind r) smallEngineKind ≡ true → badSmallEngine before ≡ false
+  pub ran : eqb (kind r) runInKind ≡ true → badRunIn before ≡ false
   pub numbered : eqb (kind r) pollutantKind ≡ true → badNumber w before r ≡ false
   pub planned : eqb (kind r) pollutantKind ≡ true → badPlan before r ≡ false
   pub limited : eqb (kind r) pollutantKind ≡ true → badLimit r ≡ false
   pub deviating : eqb (kind r) pollutantKind ≡ true → badDeviation r ≡ false
-  pub measured : eqb (kind r) engineKind ≡ true → badMeasurement w (declared before) r ≡ false
+  pub measured : measures (kind r) ≡ true → badMeasurement w (declared before) r ≡ false
   pub caused : eqb (kind r) engineKind ≡ true → badCause (planNumber before) (declared before) r ≡ false
   pub counted : eqb (kind r) engineKind ≡ true → tooMany before ≡ false
   pub zeroed : unused w r ≡ false
@@ -96,12 +97,14 @@ unfolding faultOf faults
 faultless w before r e =
     let p : None (faults w before r) = none (faults w before r) e in
     let of-small-engines = p .1 .1 in
-    let of-pollutants = of-small-engines .1 .1 .1 in
+    let of-run-ins = of-small-engines .1 .1 .1 in
+    let of-pollutants = of-run-ins .1 in
     let of-engines = of-pollutants .1 .1 .1 .1 in
     record {
       kinds = p .0;
       placed = p .1 .0;
       small = and-right _ _ (of-small-engines .0);
+      ran = and-right _ _ (of-run-ins .0);
       numbered = and-right _ _ (of-pollutants .0);
       planned = and-right _ _ (of-pollutants .1 .0);
       limited = and-right _ _ (of-pollutants .1 .1 .0);
@@ -117,17 +120,19 @@ faultless w before r e =
 no-kind : {X : Type 0} (k : ℕ) → isKind k ≡ false → (((n : ℕ) → isKind n ≡ true → eqb k n ≡ false) → isKind k ≡ false → X) → X
 no-kind k e other = other (λ n h. ne-eqb k n (λ z. never (sym h ∙ rw z at e))) e
 
-pub by-kind : {X : Type 0} (k : ℕ) → (k ≡ pollutantKind → X) → (k ≡ engineKind → X) → (k ≡ stopKind → X) → (k ≡ smallEngineKind → X)
+pub by-kind : {X : Type 0} (k : ℕ) → (k ≡ pollutantKind → X) → (k ≡ engineKind → X) → (k ≡ stopKind → X) → (k ≡ smallEngineKind → X) → (k ≡ runInKind → X)
     → (((n : ℕ) → isKind n ≡ true → eqb k n ≡ false) → isKind k ≡ false → X) → X
-by-kind zero one two three five other = no-kind 0 refl other
-by-kind (suc zero) one two three five other = one refl
-by-kind (suc (suc zero)) one two three five other = two refl
-by-kind (suc (suc (suc zero))) one two three five other = three refl
-by-kind (suc (suc (suc (suc zero)))) one two three five other = no-kind 4 refl other
-by-kind (suc (suc (suc (suc (suc zero))))) one two three five other = five refl
-by-kind (suc (suc (suc (suc (suc (suc k)))))) one two three five other =
-    let m = suc (suc (suc (suc (suc (suc k))))) in
-    no-kind m (rw (lt-leb m stopKind (omega arith), ne-eqb m smallEngineKind (λ z. omega arith), and-never (leb pollutantKind m)) refl) other
+by-kind zero one two three five six other = no-kind 0 refl other
+by-kind (suc zero) one two three five six other = one refl
+by-kind (suc (suc zero)) one two three five six other = two refl
+by-kind (suc (suc (suc zero))) one two three five six other = three refl
+by-kind (suc (suc (suc (suc zero)))) one two three five six other = no-kind 4 refl other
+by-kind (suc (suc (suc (suc (suc zero))))) one two three five six other = five refl
+by-kind (suc (suc (suc (suc (suc (suc zero)))))) one two three five six other = six refl
+by-kind (suc (suc (suc (suc (suc (suc (suc k))))))) one two three five six other =
+    let m = suc (suc (suc (suc (suc (suc (suc k)))))) in
+    no-kind m
+    (rw (lt-leb m stopKind (omega arith), lt-leb m runInKind (omega arith), and-never (leb pollutantKind m), and-never (leb smallEngineKind m)) refl) other
 
 abbrev pub isOther : Record → Bool
 isOther r = not (eqb (kind r) pollutantKind)
@@ -135,6 +140,12 @@ isOther r = not (eqb (kind r) pollutantKind)
 pub ofKind-append : (k : ℕ) (rs ts : List Record) → ofKind k (rs ++ ts) ≡ ofKind k rs ++ ofKind k ts
 unfolding ofKind
 ofKind-append k rs ts = those-append (λ r. eqb (kind r) k) rs ts
+
+-- no record of the kind k
+pub ofKind-none : (k : ℕ) (rs : List Record) → any (λ r. eqb (kind r) k) rs ≡ false → ofKind k rs ≡ []
+unfolding ofKind
+ofKind-none k [] e = refl
+ofKind-none k (r ∷ rs) e = let p = or-false (eqb (kind r) k) _ e in rw (p .0) (ofKind-none k rs (p .1))
 
 pub last-kind : (before : List Record) (r : Record) → lastKind (before ++ (r ∷ [])) ≡ kind r
 last-kind [] r = refl
@@ -148,48 +159,75 @@ unfolding misplaced
 placed-so [] r e = (and-never (eqb (kind r) pollutantKind), refl)
 placed-so (b ∷ bs) r e = or-false _ _ e
 
+-- there is no record of the kind k behind one that is not let stand before it
+none-behind : (k : ℕ) (test : Record → Bool) (w : ℕ)
+    → ((before : List Record) (r : Record) → any test before ≡ true → Faultless w before r → eqb (kind r) k ≡ false)
+    → (before rs : List Record) → any test before ≡ true → Clean w before rs → ofKind k rs ≡ []
+unfolding ofKind
+none-behind k test w h before [] a c = refl
+none-behind k test w h before (r ∷ rs) a c =
+    rw (h before r a (faultless w before r (c .0)))
+    (none-behind k test w h (before ++ (r ∷ [])) rs (any-left test before (r ∷ []) a) (c .1))
+
 -- after a record of another kind there is no pollutant
 pub no-pollutants : (w : ℕ) (before rs : List Record) → any isOther before ≡ true → Clean w before rs → ofKind pollutantKind rs ≡ []
-unfolding ofKind
-no-pollutants w before [] a c = refl
-no-pollutants w before (r ∷ rs) a c =
-    rw (and-left (eqb (kind r) pollutantKind) (any isOther before) (placed-so before r (faultless w before r (c .0) .placed) .0) a)
-    (no-pollutants w (before ++ (r ∷ [])) rs (any-left isOther before (r ∷ []) a) (c .1))
+no-pollutants w =
+    none-behind pollutantKind isOther w (λ before r a f. and-left (eqb (kind r) pollutantKind) (any isOther before) (placed-so before r (f .placed) .0) a)
+
+-- after a small engine there is no other
+abbrev isSmall : Record → Bool
+isSmall r = eqb (kind r) smallEngineKind
+
+pub no-small-engines : (w : ℕ) (before rs : List Record) → any isSmall before ≡ true → Clean w before rs → ofKind smallEngineKind rs ≡ []
+unfolding badSmallEngine
+no-small-engines w =
+    none-behind smallEngineKind isSmall w
+    (λ before r a f.
+    by-test (λ t. t ≡ false) (isSmall r) (λ e. let z : true ≡ false = rw a at (f .small e) in never z) (λ e. refl))
+
+-- after an engine there are no run-in values, and after run-in values no others
+abbrev pub isMeasured : Record → Bool
+isMeasured r = measures (kind r)
+
+pub run-in-first : (before : List Record) → badRunIn before ≡ false → any isMeasured before ≡ false
+unfolding badRunIn
+run-in-first before e =
+    let p = or-false (any (λ b. eqb (kind b) runInKind) before || any (λ b. eqb (kind b) engineKind) before) _ e .0 in
+    any-or (λ b. eqb (kind b) engineKind) (λ b. eqb (kind b) runInKind) before
+    ∙ let q = or-false (any (λ b. eqb (kind b) runInKind) before) _ p in rw (q .0, q .1) refl
+
+pub no-run-ins : (w : ℕ) (before rs : List Record) → any isMeasured before ≡ true → Clean w before rs → ofKind runInKind rs ≡ []
+no-run-ins w =
+    none-behind runInKind isMeasured w
+    (λ before r a f. by-test (λ t. t ≡ false) (eqb (kind r) runInKind) (λ e. never (sym a ∙ run-in-first before (f .ran e))) (λ e. refl))
 
 -- a small engine stands behind a pollutant
-small-engine-behind : (before : List Record) → badSmallEngine before ≡ false → not (eqb (lastKind before) pollutantKind) ≡ false
+pub small-engine-behind : (before : List Record) → badSmallEngine before ≡ false → not (eqb (lastKind before) pollutantKind) ≡ false
 unfolding badSmallEngine
 small-engine-behind before e =
     or-false (any (λ b. eqb (kind b) smallEngineKind) before) (not (eqb (lastKind before) pollutantKind))
     (or-false (any (λ b. eqb (kind b) smallEngineKind) before || not (eqb (lastKind before) pollutantKind)) _ e .0) .1
-
--- after a record of another kind than a pollutant there are engines and a stop alone
-pub no-heading : (w : ℕ) (before : List Record) (r : Record) (rs : List Record) → isOther r ≡ true → Clean w (before ++ (r ∷ [])) rs → heading rs ≡ []
-unfolding heading
-no-heading w before r [] o c = refl
-no-heading w before r (a ∷ rs) o c =
-    let f = faultless w (before ++ (r ∷ [])) a (c .0) in
-    let rest : isOther a ≡ true → heading rs ≡ [] = λ q. no-heading w (before ++ (r ∷ [])) a rs q (c .1) in
-    by-kind (kind a)
-    (λ k.
-    let n : any isOther (before ++ (r ∷ [])) ≡ false = rw k at (placed-so (before ++ (r ∷ [])) a (f .placed) .0) in
-    never (sym (any-last isOther before r o) ∙ n))
-    (λ k. rw k (rest (rw k refl)))
-    (λ k. rw k (rest (rw k refl)))
-    (λ k.
-    let l = small-engine-behind (before ++ (r ∷ [])) (f .small (rw k refl)) in
-    never (sym o ∙ rw (last-kind before r) at l))
-    (λ n e. never (sym (ap not e) ∙ f .kinds))
 
 -- after a stop there is nothing
 pub nothing-after : (w : ℕ) (before rs : List Record) → stopped before ≡ true → Clean w before rs → rs ≡ []
 nothing-after w before [] a c = refl
 nothing-after w before (r ∷ rs) a c = never (sym a ∙ placed-so before r (faultless w before r (c .0) .placed) .1)
 
--- pollutants alone: no engine
-pub no-engines : (rs : List Record) → any isOther rs ≡ false → ofKind engineKind rs ≡ []
-unfolding ofKind
-no-engines [] e = refl
-no-engines (r ∷ rs) e =
-    let p = or-false (isOther r) (any isOther rs) e in
-    rw (eqb-true (kind r) pollutantKind (not-false _ (p .0))) (no-engines rs (p .1))
+measured-other : (r : Record) → isMeasured r ≡ true → isOther r ≡ true
+measured-other r e = by-test (λ t. not t ≡ true) (eqb (kind r) pollutantKind) (λ o. let z : false ≡ true = rw (eqb-true (kind r) pollutantKind o) at e in never (sym z)) (λ o. refl)
+
+-- after an engine, and after run-in values, there are engines and a stop alone
+pub no-heading : (w : ℕ) (before : List Record) (r : Record) (rs : List Record) → isMeasured r ≡ true → Clean w (before ++ (r ∷ [])) rs → heading rs ≡ []
+unfolding heading
+no-heading w before r [] m c = refl
+no-heading w before r (a ∷ rs) m c =
+    let all = before ++ (r ∷ []) in
+    let f = faultless w all a (c .0) in
+    let o = measured-other r m in
+    by-kind (kind a)
+    (λ k. let n : any isOther all ≡ false = rw k at (placed-so all a (f .placed) .0) in never (sym (any-last isOther before r o) ∙ n))
+    (λ k. rw k (no-heading w all a rs (rw k refl) (c .1)))
+    (λ k. rw (k, nothing-after w (all ++ (a ∷ [])) rs (any-last (λ b. eqb (kind b) stopKind) all a (rw k refl)) (c .1)) refl)
+    (λ k. let l = small-engine-behind all (f .small (rw k refl)) in never (sym o ∙ rw (last-kind before r) at l))
+    (λ k. never (sym (any-last isMeasured before r m) ∙ run-in-first all (f .ran (rw k refl))))
+    (λ n e. never (sym (ap not e) ∙ f .kinds))

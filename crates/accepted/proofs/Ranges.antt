@@ -1,13 +1,14 @@
--- The numbers of an accepted sheet: a declared pollutant's number is 1 to w, and each engine's measurement of it 1 to 9,999,999.
-use Rattle.arithmetic.proofs.Basics.{ℕ, zero, suc, _≤_, _<_, arith, _≡_, sym, _∙_, ⊎-elim, Bool, true, false, _||_, List, [], _∷_, eqb, eqb-true, never}
+-- The numbers of an accepted sheet: a declared pollutant's number is 1 to w, and each measurement of it, an engine's or a run-in value, 1 to
+-- 9,999,999.
+use Rattle.arithmetic.proofs.Basics.{ℕ, zero, suc, _≤_, _<_, arith, _≡_, refl, sym, _∙_, ⊎-elim, Bool, true, false, _||_, List, [], _∷_, eqb, eqb-true, never}
 use Rattle.arithmetic.proofs.Basics.{or-false, by-test, lt-or-ge, in-range, any-snoc}
 use Rattle.rules.specs.Tools.{any}
 use Rattle.rules.specs.Logarithm.{greatest}
-use Rattle.rules.specs.Sheet.{Record, Pollutant, measurement, ofKind, engines, declared, declares, numbers}
+use Rattle.rules.specs.Sheet.{Record, Pollutant, pollutantKind, engineKind, runInKind, measures, measurement, ofKind, engines, runIns, declared, declares, numbers}
 use Rattle.rules.specs.Refusals.{badValue, badMeasurement}
 use Rattle.accepted.proofs.Faultless.{Clean}
 use Rattle.accepted.proofs.ByNumber.{InOrder, in-order}
-use Rattle.accepted.proofs.Causes.{each-engine}
+use Rattle.accepted.proofs.Causes.{each-of}
 
 -- a test that holds of none of the numbers 1 to w
 pub none-of : (f : ℕ → Bool) (w : ℕ) → any f (numbers w) ≡ false → (p : ℕ) → 1 ≤ p → p ≤ w → f p ≡ false
@@ -41,7 +42,15 @@ measured : (w : ℕ) (ps : List Pollutant) (r : Record) (p : ℕ) → badMeasure
 unfolding badMeasurement
 measured w ps r p e d l h = in-range 1 greatest (measurement r p) (rw d at (none-of (badValue ps r) w e p l h))
 
-pub measurements-in : (w : ℕ) (rs : List Record) → Clean w [] rs → (p : ℕ) → declares (declared rs) p ≡ true → InRange p (engines rs)
-measurements-in w rs c p d =
+pub values-in : (k : ℕ) → eqb k pollutantKind ≡ false → measures k ≡ true → (w : ℕ) (rs : List Record) → Clean w [] rs
+    → (p : ℕ) → declares (declared rs) p ≡ true → InRange p (ofKind k rs)
+values-in k other holds w rs c p d =
     let n = number-in w rs c p d in
-    each-engine w [] rs c (InRange p) tt (λ r es m f q. let x = measured w (declared rs) r p m d (n .0) (n .1) in (x .0, x .1, q))
+    each-of k other w [] rs c (InRange p) tt
+    (λ r es i m f q. let x = measured w (declared rs) r p (m holds) d (n .0) (n .1) in (x .0, x .1, q))
+
+pub measurements-in : (w : ℕ) (rs : List Record) → Clean w [] rs → (p : ℕ) → declares (declared rs) p ≡ true → InRange p (engines rs)
+measurements-in = values-in engineKind refl refl
+
+pub run-in-values-in : (w : ℕ) (rs : List Record) → Clean w [] rs → (p : ℕ) → declares (declared rs) p ≡ true → InRange p (runIns rs)
+run-in-values-in = values-in runInKind refl refl

@@ -1,15 +1,15 @@
 -- What an accepted sheet has: records in their places, a plan, and engines to its last row at most.
-use Rattle.arithmetic.proofs.Basics.{ℕ, zero, suc, _+_, _*_, _/_, _≤_, _<_, mul-zero, mul-div-le, mul-le-mul-left, div-le-of-le-mul, arith, _≡_, refl, sym, ap, _∙_, Bool, true, false, cond, List, [], _∷_, _++_}
+use Rattle.arithmetic.proofs.Basics.{ℕ, zero, suc, _+_, _-_, _*_, _/_, _≤_, _<_, mul-zero, mul-div-le, mul-le-mul-left, div-le-of-le-mul, arith, _≡_, refl, sym, ap, _∙_, Bool, true, false, cond, List, [], _∷_, _++_}
 use Rattle.arithmetic.proofs.Basics.{append-assoc, append-nil, eqb, length, getD, length-append, length-map, List·getD-append, List·getD-map, eqb-true}
 use Rattle.arithmetic.proofs.Basics.{not-false, leb-false, in-range, by-test}
-use Rattle.rules.specs.Sheet.{Record, morePollutants, size, most, records, pollutantKind, engineKind, stopKind, smallEngineKind, kind, plan, ofKind, engines, pollutant}
+use Rattle.rules.specs.Sheet.{Record, morePollutants, size, most, records, pollutantKind, engineKind, stopKind, smallEngineKind, runInKind, kind, plan, ofKind, engines, runIns, pollutant}
 use Rattle.rules.specs.Sheet.{declared, planNumber}
 use Rattle.rules.specs.Plans.{Plan, knownDeviation, unknownDeviation, attributes, inService, corrected, planOf, lastRow, planCount, numberOf}
 use Rattle.rules.specs.Refusals.{misplaced, badPlan, tooMany}
-use Rattle.accepted.specs.Sheets.{recordAt, pollutantsIn, enginesIn, AcceptedSheet}
+use Rattle.accepted.specs.Sheets.{recordAt, pollutantsIn, runInsIn, enginesIn, AcceptedSheet}
 use Rattle.accepted.proofs.Records.{record-at, whole-records, length-records}
 use Rattle.accepted.proofs.Faultless.{Clean, Sound, sound, faultless, ofKind-append}
-use Rattle.accepted.proofs.Engines.{layout, heading-parts, counts, engine-at}
+use Rattle.accepted.proofs.Engines.{layout, heading-parts, counts, engine-at, run-in-last}
 use Rattle.accepted.proofs.ByNumber.{InOrder, in-order}
 use Rattle.accepted.proofs.Causes.{Caused, causes, plan-append}
 
@@ -141,26 +141,40 @@ module _ {w : ℕ} {b : List ℕ} {plan : Plan} {start : ℕ} (s : AcceptedSheet
   engine-is j h =
       rw (← s .starts) at (engine-at w rs clean j h) ∙ record-at w b (start + j) (omega (arith, all-records, length-records w b))
 
+  -- the heading's two parts
   abbrev ps : List Record
   ps = ofKind pollutantKind rs
+
+  abbrev behind : List Record
+  behind = ofKind smallEngineKind rs ++ runIns rs
 
   pub declared-first : length (pollutantsIn w b) ≤ start
   unfolding declared
   declared-first =
       rw (length-map ps pollutant, s .starts, heading-parts w [] rs clean)
-      (omega (arith, length-append ps (ofKind smallEngineKind rs)))
+      (omega (arith, length-append ps behind))
 
   pub pollutant-is : (k : ℕ) → k < length (pollutantsIn w b) → getD (pollutantsIn w b) k (pollutant []) ≡ pollutant (recordAt w b k)
   unfolding declared
   pollutant-is k h =
       let l : k < length ps = rw (length-map ps pollutant) at h in
-      let m : k < length (ps ++ ofKind smallEngineKind rs) = omega (arith, length-append ps (ofKind smallEngineKind rs)) in
+      let m : k < length (ps ++ behind) = omega (arith, length-append ps behind) in
       let whole = layout w [] rs clean in
       List·getD-map pollutant ps k []
       ∙ ap pollutant (sym (ap (λ (xs : List Record). getD xs k []) (rw (heading-parts w [] rs clean) at whole)
-      ∙ List·getD-append (ps ++ ofKind smallEngineKind rs) (ofKind engineKind rs ++ ofKind stopKind rs) [] k m
-      ∙ List·getD-append ps (ofKind smallEngineKind rs) [] k l)
+      ∙ List·getD-append (ps ++ behind) (ofKind engineKind rs ++ ofKind stopKind rs) [] k m
+      ∙ List·getD-append ps behind [] k l)
       ∙ record-at w b k (omega (arith, declared-first, all-records, length-records w b)))
+
+  -- the first record declares a pollutant, so that the heading has one
+  pub headed : 1 ≤ start
+  headed = omega (arith, declared-first, some-declared w rs some-record clean)
+
+  -- the run-in values are the record before the first engine's place, if it is of that kind
+  pub run-in-is : runInsIn w b ≡ cond (eqb (kind (recordAt w b (start - 1))) runInKind) (recordAt w b (start - 1) ∷ []) []
+  run-in-is =
+      let last = record-at w b (start - 1) (omega (arith, headed, all-records, length-records w b)) in
+      run-in-last w rs clean (rw (s .starts) at headed) (recordAt w b (start - 1)) (sym (rw (← s .starts) last))
 
   -- no more engines than rows
   pub rows-fit : length es ≤ lastRow plan

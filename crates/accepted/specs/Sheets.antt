@@ -3,7 +3,7 @@ use Prim.Native.Nat.{ℕ, _*_, _≤_}
 use mathlib.Core.Path.{_≡_}
 use mathlib.Core.List.{List}
 use lib.ListN.{length, take, drop}
-use Rattle.rules.specs.Sheet.{Record, Pollutant, morePollutants, size, records, heading, engines, declared, planNumber}
+use Rattle.rules.specs.Sheet.{Record, Pollutant, morePollutants, size, records, heading, engines, runIns, declared, planNumber}
 use Rattle.rules.specs.Plans.{Plan, planOf}
 use Rattle.rules.specs.Refusals.{accepted, check}
 
@@ -12,9 +12,12 @@ module _ (w : ℕ) (b : List ℕ) where
   abbrev pub recordAt : (k : ℕ) → Record
   recordAt k = take (size w) (drop (size w * k) b)
 
-  -- their declared pollutants, and their engines
+  -- their declared pollutants, their run-in values, and their engines
   abbrev pub pollutantsIn : List Pollutant
   pollutantsIn = declared (records w b)
+
+  abbrev pub runInsIn : List Record
+  runInsIn = runIns (records w b)
 
   abbrev pub enginesIn : List Record
   enginesIn = engines (records w b)

@@ -1,6 +1,6 @@
 -- Judging refuses what the check refuses, with its number and record, and judges the records of what it accepts.
 use Rattle.arithmetic.proofs.Basics.{ℕ, _≡_, refl, sym, ap, _∙_, Bool, true, false, List, length}
-use Rattle.rules.specs.Sheet.{Record, records, engines, stopped, planNumber, declared}
+use Rattle.rules.specs.Sheet.{Record, records, engines, runIns, stopped, planNumber, declared}
 use Rattle.rules.specs.Plans.{planOf}
 use Rattle.rules.specs.Series.{Series, ongoing, passed, failed, referred, after, Pair, Answer, refusal, judgement}
 use Rattle.rules.specs.Series.{answer, judgeRecords}
@@ -9,7 +9,7 @@ use Rattle.rules.specs.Operations.{judgeBy, judge}
 
 -- the series of a sheet's records, after all of its engines
 abbrev pub seriesOf : (q : ℕ) → List Record → Series
-seriesOf q rs = after (planOf (planNumber rs)) (declared rs) q (engines rs) (length (engines rs))
+seriesOf q rs = after (planOf (planNumber rs)) (declared rs) (runIns rs) q (engines rs) (length (engines rs))
 
 -- what an answer says of the check
 abbrev pub checkIn : Answer → Check

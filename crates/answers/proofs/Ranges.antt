@@ -2,7 +2,7 @@
 use Rattle.arithmetic.proofs.Basics.{ℕ, zero, suc, _+_, _≤_, _<_, div-le-of-le-mul, arith, _≡_, refl, _∙_, Bool, true, false, _||_, cond, List, [], _∷_, _++_, leb}
 use Rattle.arithmetic.proofs.Basics.{eqb, length, take, length-append, length-map, leb-true, and-true, by-test, never}
 use Rattle.rules.specs.Tools.{any, all, within}
-use Rattle.rules.specs.Sheet.{Record, Pollutant, size, most, records, numbers, engines, stopped, planNumber, declared}
+use Rattle.rules.specs.Sheet.{Record, Pollutant, size, most, records, numbers, engines, runIns, stopped, planNumber, declared}
 use Rattle.rules.specs.Plans.{Plan, planOf}
 use Rattle.rules.specs.Series.{Standing, Series, ongoing, passed, failed, referred, hasFailed, hasPassed, settleBy, settle}
 use Rattle.rules.specs.Series.{Before, early, equalCause, referral, leftOpen, statistics, beforeRow, rowBy, walk, after}
@@ -12,21 +12,21 @@ use Rattle.accepted.proofs.Records.{length-records}
 use Rattle.accepted.proofs.Faultless.{length-fine}
 use Rattle.answers.proofs.Answers.{seriesOf, engineIn}
 
--- ---- a refusal: its number is 1 to 12 or 16 to 18, and its record one of n
+-- ---- a refusal: its number is 1 to 12 or 16 to 19, and its record one of n
 
 abbrev pub isRefusal : (number : ℕ) → Bool
-isRefusal n = within 1 12 n || within 16 18 n
+isRefusal n = within 1 12 n || within 16 19 n
 
 abbrev pub RefusalIn : (n : ℕ) → Check → Type 0
 RefusalIn n accepted = Unit {0}
 RefusalIn n (refused number place) = (isRefusal number ≡ true) × (place < n)
 
 -- so it fits a byte
-pub refusal-most : (number : ℕ) → isRefusal number ≡ true → (1 ≤ number) × (number ≤ 18)
+pub refusal-most : (number : ℕ) → isRefusal number ≡ true → (1 ≤ number) × (number ≤ 19)
 refusal-most n e =
-    by-test (λ t. t || within 16 18 n ≡ true → (1 ≤ n) × (n ≤ 18)) (within 1 12 n)
+    by-test (λ t. t || within 16 19 n ≡ true → (1 ≤ n) × (n ≤ 19)) (within 1 12 n)
     (λ h f. let t = and-true (leb 1 n) (leb n 12) h in (leb-true 1 n (t .0), omega (arith, leb-true n 12 (t .1))))
-    (λ h f. let t = and-true (leb 16 n) (leb n 18) f in (omega (arith, leb-true 16 n (t .0)), leb-true n 18 (t .1))) e
+    (λ h f. let t = and-true (leb 16 n) (leb n 19) f in (omega (arith, leb-true 16 n (t .0)), leb-true n 19 (t .1))) e
 
 -- what holds of every number in a list of faults holds of the first that is present
 abbrev pub numbered : (test : ℕ → Bool) → Fault → Bool
@@ -78,8 +78,8 @@ settled-at n ss = cases (any (λ s. hasFailed (s .decision)) ss) (all (λ s. has
     cases false true = refl
     cases false false = tt
 
-module _ (plan : Plan) (q : ℕ) where
-  row-at : (b : Before) (n : ℕ) (first : List Record) (ss : List Standing) → DecidedAt n (rowBy b plan q n first ss)
+module _ (plan : Plan) (vs : List Record) (q : ℕ) where
+  row-at : (b : Before) (n : ℕ) (first : List Record) (ss : List Standing) → DecidedAt n (rowBy b plan vs q n first ss)
   row-at early n first ss = tt
   row-at equalCause n first ss = omega arith
   row-at referral n first ss = refl
@@ -89,19 +89,19 @@ module _ (plan : Plan) (q : ℕ) where
   module _ (ps : List Pollutant) (es : List Record) where
     -- so a series after n engines is that after m of them, at which it is decided or goes on
     abbrev pub Made : (n : ℕ) → Series → Type 0
-    Made n s = (m : ℕ) × (m ≤ n) × DecidedAt m s × (after plan ps q es m ≡ s)
+    Made n s = (m : ℕ) × (m ≤ n) × DecidedAt m s × (after plan ps vs q es m ≡ s)
 
-    walk-made : (n : ℕ) (s : Series) → after plan ps q es n ≡ s → Made n s → Made (suc n) (walk plan ps q (suc n) (take (suc n) es) s)
+    walk-made : (n : ℕ) (s : Series) → after plan ps vs q es n ≡ s → Made n s → Made (suc n) (walk plan ps vs q (suc n) (take (suc n) es) s)
     unfolding after
     walk-made n (ongoing ss) e h = (suc n, omega arith, row-at (beforeRow plan ps (suc n) (take (suc n) es)) (suc n) (take (suc n) es) ss, rw e refl)
     walk-made n (passed m ss) e h = (h .0, omega (arith, h .1), h .2, h .3)
     walk-made n (failed m ground ss) e h = (h .0, omega (arith, h .1), h .2, h .3)
     walk-made n (referred m ss) e h = (h .0, omega (arith, h .1), h .2, h .3)
 
-    pub after-made : (n : ℕ) → Made n (after plan ps q es n)
+    pub after-made : (n : ℕ) → Made n (after plan ps vs q es n)
     unfolding after
     after-made zero = (0, omega arith, tt, refl)
-    after-made (suc n) = walk-made n (after plan ps q es n) refl (after-made n)
+    after-made (suc n) = walk-made n (after plan ps vs q es n) refl (after-made n)
 
 -- ---- a judgement after n engines, of w pollutants
 
@@ -127,7 +127,7 @@ answer-range w false n m (ongoing ss) l h = omega (arith, length-pairs w ss)
 pub judgement-range : (w q : ℕ) (rs : List Record) → JudgementIn w (length (engines rs)) (judgeRecords w q rs)
 unfolding judgeRecords
 judgement-range w q rs =
-    let m = after-made (planOf (planNumber rs)) q (declared rs) (engines rs) (length (engines rs)) in
+    let m = after-made (planOf (planNumber rs)) (runIns rs) q (declared rs) (engines rs) (length (engines rs)) in
     answer-range w (stopped rs) (length (engines rs)) (m .0) (seriesOf q rs) (m .1) (m .2)
 
 engine-in : (w n : ℕ) (a : Answer) → JudgementIn w n a → engineIn a ≤ n

@@ -21,4 +21,4 @@ pub use borrow.Author.Needs.{needs}
 pub use Rattle.arithmetic.proofs.Booleans.{or-false, or-true, by-test, never, and-true, and-left, and-right, and-never, or-same, not-or, or-right}
 pub use Rattle.arithmetic.proofs.Booleans.{and-follows, cond-follows, or-swap, or-assoc}
 pub use Rattle.arithmetic.proofs.Order.{lt-or-ge, not-ltb, ltb-same, in-range, twice, leb-same}
-pub use Rattle.arithmetic.proofs.Lists.{any-append, any-snoc, map-append, take-map, any-last, any-left, those-append, length-those, any-update, any-part, any-none, any-same, any-implies}
+pub use Rattle.arithmetic.proofs.Lists.{any-append, any-snoc, map-append, take-map, any-last, any-left, those-append, length-those, any-update, any-part, any-none, any-same, any-or, any-implies}

@@ -37,6 +37,12 @@ pub or-same : (a : Bool) → a || false ≡ a
 or-same true = refl
 or-same false = refl
 
+pub or-between : (a b c d : Bool) → a || b || (c || d) ≡ a || c || (b || d)
+or-between true b c d = refl
+or-between false true true d = refl
+or-between false true false d = refl
+or-between false false c d = refl
+
 pub or-swap : (a b : Bool) → a || b ≡ b || a
 or-swap true true = refl
 or-swap true false = refl

@@ -9,7 +9,7 @@ use lib.ListN.{length, getD, take, drop}
 use lib.Seq.{take-nil}
 use borrow.Author.Tests.{eqb-true, eqb-false}
 use Rattle.rules.specs.Tools.{any, those}
-use Rattle.arithmetic.proofs.Booleans.{or-false, or-same, or-true, or-assoc, or-right, or-follows, by-test}
+use Rattle.arithmetic.proofs.Booleans.{or-false, or-same, or-true, or-assoc, or-between, or-right, or-follows, by-test}
 
 module _ {A : Type 0} (test : A → Bool) where
   pub any-append : (xs ys : List A) → any test (xs ++ ys) ≡ any test xs || any test ys
@@ -65,6 +65,10 @@ any-none test d e (x ∷ xs) f (suc i) = any-none test d e xs (or-false (test x)
 pub any-same : {A : Type 0} (f h : A → Bool) → ((x : A) → h x ≡ f x) → (xs : List A) → any h xs ≡ any f xs
 any-same f h i [] = refl
 any-same f h i (x ∷ xs) = rw (i x, any-same f h i xs) refl
+
+pub any-or : {A : Type 0} (f h : A → Bool) (xs : List A) → any (λ x. f x || h x) xs ≡ any f xs || any h xs
+any-or f h [] = refl
+any-or f h (x ∷ xs) = rw (any-or f h xs) (or-between (f x) (h x) (any f xs) (any h xs))
 
 pub any-implies : {A : Type 0} (f h : A → Bool) → ((x : A) → f x ≡ true → h x ≡ true) → (xs : List A) → any f xs ≡ true → any h xs ≡ true
 any-implies f h i [] e = e

@@ -1,3 +1,6 @@
 pub mod Same
-pub mod AsBefore
 pub mod Longer
+pub mod EachKind
+pub mod AsBefore
+pub mod BeforeRunIn
+pub mod Uncorrected

@@ -12,6 +12,9 @@ use Rattle.answers.proofs.Answers.{checkIn, judge-check}
 use Rattle.before.specs.Operations.{Old, isKept}
 use Rattle.before.specs.Operations as old
 
+abbrev pub refusalIn : Fault → ℕ
+refusalIn (fault number present) = number
+
 abbrev isPresent : Fault → Bool
 isPresent (fault number present) = present
 

@@ -1,2 +1,3 @@
 pub mod Operations
 pub mod Document
+pub mod SmallEngines

@@ -37,6 +37,16 @@ stop = 3 ∷ replicate 19 0
 abbrev pub smallEngine : (volume speed date : ℕ) → List ℕ
 smallEngine v n d = (5 ∷ 0 ∷ []) ++ u16 v ++ u16 n ++ (0 ∷ 0 ∷ []) ++ u32 d ++ replicate 8 0
 
+-- kind 6, of 02, F-2; of pollutant 1 alone; and of six pollutants
+abbrev pub runIn : (v₁ v₂ v₃ v₄ : ℕ) → List ℕ
+runIn v₁ v₂ v₃ v₄ = (6 ∷ replicate 3 0) ++ u32 v₁ ++ u32 v₂ ++ u32 v₃ ++ u32 v₄
+
+abbrev pub ranIn : ℕ → List ℕ
+ranIn v = runIn v 0 0 0
+
+abbrev pub sixRunIn : (v₁ v₂ v₃ v₄ v₅ v₆ : ℕ) → List ℕ
+sixRunIn v₁ v₂ v₃ v₄ v₅ v₆ = runIn v₁ v₂ v₃ v₄ ++ u32 v₅ ++ u32 v₆
+
 abbrev pub times : ℕ → List ℕ → List ℕ
 times zero b = []
 times (suc n) b = b ++ times n b

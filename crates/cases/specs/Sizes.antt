@@ -10,7 +10,7 @@ use Rattle.rules.specs.Refusals.{Check, accepted, refused}
 use Rattle.rules.specs.Operations.{evidence, noRoom, joined, append, appended, report, reported}
 use Rattle.rules.specs.Sizes.{judgeSized, evidenceSized, appendSized, appendedSized, reportSized, reportedSized}
 use Rattle.rules.specs.Converter.{widen, narrow, declaresAbove, convert, converted, addedPollutants}
-use Rattle.cases.specs.Bytes.{pollutant, engine, smallEngine, wide, six, stop, times}
+use Rattle.cases.specs.Bytes.{pollutant, engine, smallEngine, ranIn, sixRunIn, wide, six, stop, times}
 use Rattle.cases.specs.Judged.{judged}
 use Rattle.cases.specs.Table.{Case, _↦→_}
 
@@ -25,12 +25,15 @@ example = pollutant 4 3 150 0 ++ times 4 (engine 0 0 0 0 140)
 abbrev wideExample : List ℕ
 wideExample = wide (pollutant 4 3 150 0) ++ times 4 (wide (engine 0 0 0 0 140))
 
--- as many records as there may be, 40: the six pollutants, a small engine, 32 engines and a stop
-abbrev longest : List ℕ
-longest =
+-- the six pollutants, a small engine, records behind it, 32 engines and a stop; as many as there may be, 41, are these with run-in values
+abbrev manyWith : (behind : List ℕ) → List ℕ
+manyWith behind =
     wide (pollutant 1 2 1000 0) ++ wide (pollutant 2 2 1000 0) ++ wide (pollutant 3 2 1000 0) ++ wide (pollutant 4 2 150 0)
-    ++ wide (pollutant 5 2 1000 0) ++ wide (pollutant 6 2 1000 0) ++ wide (smallEngine 700 3000 19980930)
+    ++ wide (pollutant 5 2 1000 0) ++ wide (pollutant 6 2 1000 0) ++ wide (smallEngine 700 3000 19980930) ++ behind
     ++ times 32 (six 0 1000 1000 1000 150 1000 1000) ++ wide stop
+
+abbrev longest : List ℕ
+longest = manyWith (sixRunIn 1000 1000 1000 150 1000 1000)
 
 -- ---- judging
 
@@ -48,9 +51,11 @@ table =
     ∷ (wide (pollutant 6 4 1000 0) ++ six 7 0 0 0 0 0 1501 ↦→ noneDecided 1)
     ∷ (wide (pollutant 5 4 1000 0) ++ six 0 0 0 0 0 1500 0 ↦→ noneDecided 1)
     ∷ (wide (pollutant 5 4 1000 0) ++ six 0 0 0 0 0 1501 0 ↦→ refusal 9 1)
-    -- 40 records have room, and 41 are refused by their length
+    -- 41 records have room, and 42 are refused by their length; 40 as before, and 41 with a record after the stop
     ∷ (longest ↦→ judgement 1 3 1 (replicate 6 (pair 1 3)))
     ∷ (longest ++ wide stop ↦→ refusal 1 0)
+    ∷ (manyWith [] ↦→ judgement 1 3 1 (replicate 6 (pair 1 3)))
+    ∷ (manyWith [] ++ wide stop ↦→ refusal 3 40)
     -- refusal 1: records of 20 bytes
     ∷ (example ↦→ refusal 1 0)
     -- refusal 4: "pollutant numbers run to 6"
@@ -94,6 +99,8 @@ answers =
     ∷ (appendSized 28 (sheet ++ replicate 27 9) 168 (six 0 90 0 0 0 0 50) is refused 13 0)
     ∷ (appendSized 28 (sheet ++ replicate 28 9) 168 (engine 0 90 0 0 0) is refused 14 0)
     ∷ (appendSized 24 [] 168 [] is refused 30 0)
+    -- 02, F-2: "19, .. one after an engine"
+    ∷ (appendSized 28 (sheet ++ replicate 28 9) 168 (sixRunIn 90 0 0 0 0 50) is refused 19 6)
     ∷ []
 
 answers-hold : map (λ l. l .found) answers ≡ map (λ l. l .expected) answers
@@ -143,6 +150,9 @@ conversions =
     ∷ carried 20 example 143 wideExample
     ∷ carried 28 wideExample 100 example
     ∷ carried 28 wideExample 101 example
+    -- 02, F-2: run-in values as measurements
+    ∷ carried 20 (pollutant 1 3 100 0 ++ ranIn 90) 56 (wide (pollutant 1 3 100 0) ++ wide (ranIn 90))
+    ∷ carried 28 (wide (pollutant 1 3 100 0) ++ wide (ranIn 90)) 40 (pollutant 1 3 100 0 ++ ranIn 90)
     -- "32, converter output too short, after 31"
     ∷ turnedAway 32 20 example 139
     ∷ turnedAway 32 28 wideExample 99

@@ -54,10 +54,11 @@ table =
     ∷ (pollutant 1 1 4000 625020 ++ stop ↦→ one 2 0 3 0 0)
     -- "Plan 3, pollutant 4, L 150, four engines at 140"
     ∷ (pollutant 4 3 150 0 ++ times 4 (engine 0 0 0 0 140) ↦→ judgement 1 4 1 (replicate 3 (pair 0 0) ++ (pair 1 4 ∷ [])))
-    -- refusal 1: no bytes, not whole records, over 760 bytes; 38 records are refused by the 33rd engine
+    -- refusal 1: no bytes, not whole records, over 780 bytes; 38 and 39 records are refused by the 33rd engine
     ∷ ([] ↦→ refusal 1 0)
     ∷ (1 ∷ [] ↦→ refusal 1 0)
-    ∷ (pollutant 1 1 4000 625020 ++ times 38 (measured 2000) ↦→ refusal 1 0)
+    ∷ (pollutant 1 1 4000 625020 ++ times 39 (measured 2000) ↦→ refusal 1 0)
+    ∷ (pollutant 1 1 4000 625020 ++ times 38 (measured 2000) ↦→ refusal 10 33)
     ∷ (pollutant 1 1 4000 625020 ++ times 37 (measured 2000) ↦→ refusal 10 33)
     -- refusal 2, the first of many
     ∷ (replicate 20 9 ↦→ refusal 2 0)

@@ -48,7 +48,7 @@ pub enum Checked {
     Refused(Refusal),
 }
 
-// "1, no bytes, a length not a multiple of 20, or over" 760 "bytes", by the size; 02, F-1: "A sheet may hold 38 records."
+// "1, no bytes, a length not a multiple of 20, or over" 780 "bytes", by the size; 02, F-2: "The record limit rises by one."
 fn bad_length(size: Size, n: usize) -> bool
     ensures { λ b. ⌜ b ≡ badLength (widthIs size) n ⌝ }
 {

@@ -2,7 +2,7 @@
 -- pollutants, but for none.
 use Rattle.arithmetic.proofs.Basics.{ℕ, suc, _≤_, arith, _≡_, refl, sym, ap, fun-ext, _∙_, Bool, true, false, List, [], _∷_, map, map-map, length, never}
 use Rattle.arithmetic.proofs.Basics.{and-true}
-use Rattle.rules.specs.Sheet.{Record, Pollutant, numbers, engines, stopped, declared, planNumber}
+use Rattle.rules.specs.Sheet.{Record, Pollutant, numbers, engines, runIns, stopped, declared, planNumber}
 use Rattle.rules.specs.Plans.{Plan, planOf}
 use Rattle.rules.specs.Series.{Decision, isOpen, Standing, Series, hasPassed, decisionOf, pairOf, pairs, answer, judgeRecords}
 use Rattle.columns.specs.Columns.{beforeOf, rowOf, columnOf, Gate, openAfter, causeAfter, referralAfter, rowsOf, gate, upTo, allPassed, columnsAt}
@@ -68,6 +68,7 @@ unfolding judgeRecords judgeByTally
 by-columns w q rs l r =
     let plan : Plan = planOf (planNumber rs) in
     let ps : List Pollutant = declared rs in
+    let vs : List Record = runIns rs in
     let es : List Record = engines rs in
-    judged (columnOf plan ps q es) (λ p. is-column (beforeOf plan ps es) (rowOf plan q es p)) w ps r (gate (beforeOf plan ps es) (length es))
-    (stopped rs) (length es) _ (walked plan ps q es l (length es))
+    judged (columnOf plan ps vs q es) (λ p. is-column (beforeOf plan ps es) (rowOf plan vs q es p)) w ps r (gate (beforeOf plan ps es) (length es))
+    (stopped rs) (length es) _ (walked plan ps vs q es l (length es))

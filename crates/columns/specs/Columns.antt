@@ -9,7 +9,7 @@ use lib.ListN.{take}
 use Rattle.rules.specs.Tools.{any, all}
 use Rattle.rules.specs.Sheet.{Record, Pollutant, measurement}
 use Rattle.rules.specs.Plans.{Plan, Row, row}
-use Rattle.rules.specs.Series.{Decision, isOpen, passedAt, failedAt, Standing, Before, early, equalCause, referral, leftOpen, statistics, beforeRow, lookedAt, hasFailed, hasPassed}
+use Rattle.rules.specs.Series.{Decision, isOpen, passedAt, failedAt, Standing, Before, early, equalCause, referral, leftOpen, statistics, beforeRow, lookedAt, correction, hasFailed, hasPassed}
 
 -- ---- one column: a pollutant's decision as if it were alone, but for what comes before each row
 
@@ -30,11 +30,12 @@ column before says (suc n) = turned (before (suc n)) (suc n) (says (suc n)) (col
 abbrev pub beforeOf : Plan → List Pollutant → (es : List Record) → ℕ → Before
 beforeOf plan ps es n = beforeRow plan ps n (take n es)
 
-abbrev pub rowOf : Plan → (q : ℕ) → (es : List Record) → Pollutant → ℕ → Row
-rowOf plan q es p n = row plan q n (p .limit) (p .deviation) (map (λ r. measurement r (p .number)) (take n es))
+abbrev pub rowOf : Plan → (runIns : List Record) → (q : ℕ) → (es : List Record) → Pollutant → ℕ → Row
+rowOf plan vs q es p n =
+    row plan q n (p .limit) (p .deviation) (correction vs (take n es) (p .number)) (map (λ r. measurement r (p .number)) (take n es))
 
-abbrev pub columnOf : Plan → List Pollutant → (q : ℕ) → (es : List Record) → Pollutant → (n : ℕ) → Decision
-columnOf plan ps q es p n = column (beforeOf plan ps es) (rowOf plan q es p) n
+abbrev pub columnOf : Plan → List Pollutant → (runIns : List Record) → (q : ℕ) → (es : List Record) → Pollutant → (n : ℕ) → Decision
+columnOf plan ps vs q es p n = column (beforeOf plan ps es) (rowOf plan vs q es p) n
 
 -- ---- the gate: how many rows' statistics may be looked at
 

@@ -5,7 +5,7 @@ use mathlib.Core.Bool.{Bool, true, false, cond}
 use mathlib.Core.List.{List, [], _∷_, map}
 use lib.Dec.{ltb}
 use lib.ListN.{length}
-use Rattle.rules.specs.Sheet.{Record, Pollutant, numbers, engines, stopped, declared, planNumber}
+use Rattle.rules.specs.Sheet.{Record, Pollutant, numbers, engines, runIns, stopped, declared, planNumber}
 use Rattle.rules.specs.Plans.{planOf}
 use Rattle.rules.specs.Series.{Decision, isOpen, passedAt, failedAt, Pair, pairOf, Answer, judgement}
 use Rattle.columns.specs.Columns.{columnOf, beforeOf, Gate, openAfter, causeAfter, referralAfter, rowsOf, gate, upTo}
@@ -74,7 +74,7 @@ judgeByTally w q rs =
     let ps = declared rs in
     let es = engines rs in
     let g = gate (beforeOf plan ps es) (length es) in
-    tallied (stopped rs) (length es) g (tally (columnOf plan ps q es) ps (started w (rowsOf g)))
+    tallied (stopped rs) (length es) g (tally (columnOf plan ps (runIns rs) q es) ps (started w (rowsOf g)))
 
 -- ---- which pollutants are declared, 1 first: each marked as its column is gone through
 

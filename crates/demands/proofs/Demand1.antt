@@ -1,5 +1,5 @@
 -- Demand 1, "any bytes of any length are judged, or refused with a number and a record": every list of bytes is refused with a
--- number 1 to 12 or 16 to 18 and a record below the greatest number of records, or judged with a verdict 0 to 3, an engine at most the
+-- number 1 to 12 or 16 to 19 and a record below the greatest number of records, or judged with a verdict 0 to 3, an engine at most the
 -- last row, a ground 0 to 4 and a pair for each pollutant; a judgement only where the check accepts.
 -- Every list of bytes is meant, whatever w and q; the product's are at the end. (That "a refused call writes to no buffer" is in the
 -- contracts of `operations`.)
@@ -17,7 +17,8 @@ use Rattle.answers.proofs.Answers.{checkIn, judge-check, judge-accepted, judgem
 use Rattle.answers.proofs.Ranges.{isRefusal, RefusalIn, check-range, JudgementIn, judgement-range}
 
 module _ (w q : ℕ) where
-  -- refusals "1 to 12", and 16 to 18 of 02, F-1: "It returns number and record counted from 0", of records "at most 37", with F-1 38
+  -- refusals "1 to 12", 16 to 18 of 02, F-1, and 19 of F-2: "It returns number and record counted from 0", of records "at most 37", with
+  -- F-1 and F-2 39
   abbrev pub Refused : List ℕ → Type 0
   Refused b =
       (number : ℕ) × (place : ℕ)

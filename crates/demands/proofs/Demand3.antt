@@ -1,12 +1,13 @@
 -- Demand 3, "about what judging answers for the bytes of whole sheets, all pollutants together, and not about single rows".
--- The words are document 01's, defined in rules/specs/Demands. Every list of bytes is meant, whatever w and q; the product's are at the end.
+-- The words are those of document 01 and of 02, F-2, defined in rules/specs/Demands. Every list of bytes is meant, whatever w and q; the
+-- product's are at the end.
 use Rattle.arithmetic.proofs.Basics.{ℕ, _≤_, arith, _≡_, _⊎_, ⊎-elim, List}
 use Rattle.rules.specs.Logarithm.{squarings}
 use Rattle.rules.specs.Sheet.{pollutants, morePollutants, records, planNumber}
 use Rattle.rules.specs.Plans.{lastRow}
 use Rattle.rules.specs.Operations.{judge}
 use Rattle.rules.specs.Demands.{Accepted, Decided, PassesAt, FailsAt, PassesBy, FailsBy, Begins, enginesOf, planOfSheet}
-use Rattle.rules.specs.Demands.{Alike, NoneHigher}
+use Rattle.rules.specs.Demands.{Alike, NoneHigher, NotRunIn, SameZeroHours}
 use Rattle.demands.proofs.Ended.{sheet-kept, sheet-ends}
 use Rattle.demands.proofs.Lowering.{sheet-passes, sheet-fails}
 
@@ -24,13 +25,24 @@ module _ (w q : ℕ) where
   module _ (room : 2 ≤ w) (R S : List ℕ) (alike : Alike w R S) (lower : NoneHigher w R S)
       (plan : (planNumber (records w R) ≡ 1) ⊎ (planNumber (records w R) ≡ 3))
       (first : Accepted w q R) (second : Accepted w q S) (n : ℕ) where
-    -- If the first passes at n, the second passes at n or sooner.
-    pub lower-passes : PassesAt w q R n → PassesBy w q S n
-    lower-passes = sheet-passes w q room R S alike lower plan first second n
+    -- 02, F-2: "On a run-in sheet the run-in values are measurements too; lowering keeps its meaning there if the first engine's zero-hour
+    -- values are the same in both sheets." (Of other sheets the condition asks nothing. That it is needed is computed in cases/specs/RunIn.)
+    module _ (zeroHours : SameZeroHours w R S) where
+      -- If the first passes at n, the second passes at n or sooner.
+      pub lower-passes-run-in : PassesAt w q R n → PassesBy w q S n
+      lower-passes-run-in = sheet-passes w q room R S alike lower zeroHours plan first second n
 
-    -- If the second fails at n, by a row or by a stop, the first fails at n or sooner.
-    pub lower-fails : FailsAt w q S n → FailsBy w q R n
-    lower-fails = sheet-fails w q room R S alike lower plan first second n
+      -- If the second fails at n, by a row or by a stop, the first fails at n or sooner.
+      pub lower-fails-run-in : FailsAt w q S n → FailsBy w q R n
+      lower-fails-run-in = sheet-fails w q room R S alike lower zeroHours plan first second n
+
+    -- Without a record of kind 6, whatever the first engine's values.
+    module _ (plain : NotRunIn w R) where
+      pub lower-passes : PassesAt w q R n → PassesBy w q S n
+      lower-passes = lower-passes-run-in (λ run. absurd (run plain))
+
+      pub lower-fails : FailsAt w q S n → FailsBy w q R n
+      lower-fails = lower-fails-run-in (λ run. absurd (run plain))
 
 -- ---- as the product has it: four pollutants or six, twenty squarings; 02, F-10: "Keeping a decision, ending and lowering hold for either size"
 
@@ -47,8 +59,16 @@ module _ (w : ℕ) (either : (w ≡ pollutants) ⊎ (w ≡ morePollutants)) wher
     room : 2 ≤ w
     room = ⊎-elim (λ e. omega arith) (λ e. omega arith) either
 
-    pub passes-no-later : PassesAt w squarings R n → PassesBy w squarings S n
-    passes-no-later = lower-passes w squarings room R S alike lower plan first second n
+    module _ (zeroHours : SameZeroHours w R S) where
+      pub passes-no-later-run-in : PassesAt w squarings R n → PassesBy w squarings S n
+      passes-no-later-run-in = lower-passes-run-in w squarings room R S alike lower plan first second n zeroHours
 
-    pub fails-no-sooner : FailsAt w squarings S n → FailsBy w squarings R n
-    fails-no-sooner = lower-fails w squarings room R S alike lower plan first second n
+      pub fails-no-sooner-run-in : FailsAt w squarings S n → FailsBy w squarings R n
+      fails-no-sooner-run-in = lower-fails-run-in w squarings room R S alike lower plan first second n zeroHours
+
+    module _ (plain : NotRunIn w R) where
+      pub passes-no-later : PassesAt w squarings R n → PassesBy w squarings S n
+      passes-no-later = lower-passes w squarings room R S alike lower plan first second n plain
+
+      pub fails-no-sooner : FailsAt w squarings S n → FailsBy w squarings R n
+      fails-no-sooner = lower-fails w squarings room R S alike lower plan first second n plain

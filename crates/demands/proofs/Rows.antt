@@ -1,9 +1,10 @@
--- The rows of plans 1 and 3 fall with each measurement: where none is higher, a row is no worse.
+-- The rows of plans 1 and 3 fall with each measurement, and with the run-in value where the first engine's stays: where none is higher, a
+-- row is no worse.
 -- ("Taking plan 2 as falling with each measurement" is one of the readings that tempt and are wrong.)
-use Rattle.arithmetic.proofs.Basics.{ℕ, suc, _+_, _-_, _*_, _/_, _^_, _≤_, mul-le-mul-right, arith, _≡_, refl, sym, Bool, true, false, not, cond, List, _∷_}
-use Rattle.arithmetic.proofs.Basics.{leb, ltb, eqb, length, ℤ, pos, negℤ, _*ℤ_, ltZ, leZ, le-leb, leb-true, never, and-follows, cond-follows}
+use Rattle.arithmetic.proofs.Basics.{ℕ, suc, _+_, _-_, _*_, _/_, _^_, _≤_, mul-le-mul, mul-le-mul-right, arith, _≡_, refl, sym, ap, Bool, true, false}
+use Rattle.arithmetic.proofs.Basics.{not, cond, List, _∷_, leb, ltb, eqb, length, ℤ, pos, negℤ, _*ℤ_, ltZ, leZ, le-leb, leb-true, never, and-follows, cond-follows}
 use Rattle.rules.specs.Tools.{total}
-use Rattle.rules.specs.Logarithm.{greatest, g, D}
+use Rattle.rules.specs.Logarithm.{greatest, g, Correction, d, D}
 use Rattle.rules.specs.Plans.{Plan, knownDeviation, attributes, Row, pass, fail, undecided, decide, knownA, knownB, logOfTwo}
 use Rattle.rules.specs.Plans.{knownPasses, knownFails, countOver, attributesPasses, attributesFails, rowPasses}
 use Rattle.rules.specs.Plans.{rowFails, row}
@@ -25,6 +26,10 @@ NotHigher x y = (1 ≤ y) × (y ≤ x) × (x ≤ greatest)
 abbrev pub Lower : (xs ys : List ℕ) → Type 0
 Lower xs ys = Pairs NotHigher xs ys
 
+-- what the two sheets correct by: the same measurement of the first engine, and a run-in value that is not higher in the second
+abbrev pub CorrectionLe : (second first : Correction) → Type 0
+CorrectionLe e c = (e .first ≡ c .first) × NotHigher (c .value) (e .value)
+
 -- a row is no worse where a pass stays one, and a fail was one before
 decide-lower : (p₂ p₁ last f₂ f₁ : Bool) → (p₁ ≡ true → p₂ ≡ true) → (f₂ ≡ true → f₁ ≡ true)
     → RowLe (decide p₂ last f₂) (decide p₁ last f₁)
@@ -38,14 +43,20 @@ decide-lower false false false false false h k = even
 
 -- ---- plan 1: D falls
 
-D-lower : {xs ys : List ℕ} (q L : ℕ) → Lower xs ys → leZ (D q L ys) (D q L xs) ≡ true
+d-diff : (q L : ℕ) (c : Correction) (x : ℕ) → Diff (d q L c x) (g q x + g q (c .value)) (g q (c .first) + g q L)
+d-diff q L c x =
+    diff-move (diff-minus (diff-minus (diff-add (diff-pos (g q x)) (diff-pos (g q (c .value)))) (diff-pos (g q (c .first)))) (diff-pos (g q L)))
+    (omega arith)
+
+D-lower : {xs ys : List ℕ} (q L : ℕ) (e c : Correction) → CorrectionLe e c → Lower xs ys → leZ (D q L e ys) (D q L c xs) ≡ true
 unfolding total
-D-lower q L none = refl
-D-lower q L (more {x} {y} {xs} {ys} h r) =
-    let e = rising q y x (h .0) (h .1) (h .2) in
-    let i = le-fact (diff-of (D q L ys)) (diff-of (D q L xs)) (D-lower q L r) in
-    le-test (diff-add (diff-minus (diff-pos (g q y)) (diff-pos (g q L))) (diff-of (D q L ys)))
-    (diff-add (diff-minus (diff-pos (g q x)) (diff-pos (g q L))) (diff-of (D q L xs))) (omega arith)
+D-lower q L e c k none = refl
+D-lower q L e c k (more {x} {y} {xs} {ys} h r) =
+    let m = rising q y x (h .0) (h .1) (h .2) in
+    let v = rising q (e .value) (c .value) (k .1 .0) (k .1 .1) (k .1 .2) in
+    let f : g q (e .first) ≡ g q (c .first) = ap (g q) (k .0) in
+    let i = le-fact (diff-of (D q L e ys)) (diff-of (D q L c xs)) (D-lower q L e c k r) in
+    le-test (diff-add (d-diff q L e y) (diff-of (D q L e ys))) (diff-add (d-diff q L c x) (diff-of (D q L c xs))) (omega arith)
 
 turned : (z : ℤ) (k : ℕ) → Diff (negℤ z *ℤ pos k) (minus z * k) (plus z * k)
 turned z k = diff-move (diff-mul (diff-neg (diff-of z)) (diff-pos k)) (omega arith)
@@ -72,9 +83,13 @@ one-more true a y x ys xs f h = rw (f refl) (omega arith)
 one-more false true y x ys xs f h = omega arith
 one-more false false y x ys xs f h = h
 
-count-lower : {xs ys : List ℕ} (L : ℕ) → Lower xs ys → countOver L ys ≤ countOver L xs
-count-lower L none = omega arith
-count-lower L (more {x} {y} h r) = one-more (ltb L y) (ltb L x) y x _ _ (leb-follows (suc L) y (suc L) x (λ l. omega arith)) (count-lower L r)
+count-lower : {xs ys : List ℕ} (L : ℕ) (e c : Correction) → CorrectionLe e c → Lower xs ys → countOver L e ys ≤ countOver L c xs
+count-lower L e c k none = omega arith
+count-lower L e c k (more {x} {y} h r) =
+    let f : L * e .first ≡ L * c .first = ap (λ (z : ℕ). L * z) (k .0) in
+    let m : y * e .value ≤ x * c .value = mul-le-mul (h .1) (k .1 .1) in
+    one-more (ltb (L * e .first) (y * e .value)) (ltb (L * c .first) (x * c .value)) y x _ _
+    (leb-follows (suc (L * e .first)) (y * e .value) (suc (L * c .first)) (x * c .value) (λ l. omega arith)) (count-lower L e c k r)
 
 module _ (n c c′ : ℕ) (h : c ≤ c′) where
   attributes-pass : attributesPasses n c′ ≡ true → attributesPasses n c ≡ true
@@ -94,14 +109,14 @@ pub data Falling : Plan → Type 0 where
   known-falls : Falling knownDeviation
   attributes-fall : Falling attributes
 
-pub row-lower : {plan : Plan} {xs ys : List ℕ} (q n L t : ℕ) → Falling plan → Lower xs ys
-    → RowLe (row plan q n L t ys) (row plan q n L t xs)
+pub row-lower : {plan : Plan} {xs ys : List ℕ} (q n L t : ℕ) (e c : Correction) → Falling plan → CorrectionLe e c → Lower xs ys
+    → RowLe (row plan q n L t e ys) (row plan q n L t c xs)
 unfolding row rowPasses rowFails knownPasses knownFails
-row-lower {plan} {xs} {ys} q n L t known-falls h =
-    let e = D-lower q L h in
+row-lower {plan} {xs} {ys} q n L t e c known-falls k h =
+    let l = D-lower q L e c k h in
     decide-lower _ _ _ _ _
-    (above-lower (D q L ys) (D q L xs) e (knownA n *ℤ pos t *ℤ pos (2 ^ q)) logOfTwo)
-    (below-lower (D q L ys) (D q L xs) e (knownB n *ℤ pos t *ℤ pos (2 ^ q)) logOfTwo)
-row-lower {plan} {xs} {ys} q n L t attributes-fall h =
-    let e = count-lower L h in
-    decide-lower _ _ _ _ _ (attributes-pass n (countOver L ys) (countOver L xs) e) (attributes-fail n (countOver L ys) (countOver L xs) e)
+    (above-lower (D q L e ys) (D q L c xs) l (knownA n *ℤ pos t *ℤ pos (2 ^ q)) logOfTwo)
+    (below-lower (D q L e ys) (D q L c xs) l (knownB n *ℤ pos t *ℤ pos (2 ^ q)) logOfTwo)
+row-lower {plan} {xs} {ys} q n L t e c attributes-fall k h =
+    let l = count-lower L e c k h in
+    decide-lower _ _ _ _ _ (attributes-pass n (countOver L e ys) (countOver L c xs) l) (attributes-fail n (countOver L e ys) (countOver L c xs) l)

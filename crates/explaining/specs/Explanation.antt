@@ -7,7 +7,7 @@ use Rattle.rules.specs.Sheet.{pollutants, recordSize}
 use Rattle.rules.specs.Refusals as rules
 use Rattle.rules.specs.Printed.{decimal}
 use Rattle.reading.specs.declared.Step.{Step}
-use Rattle.reading.specs.declared.Step.the-variants.{Pollutant, Engine, Stop, SmallEngine, Other, End}
+use Rattle.reading.specs.declared.Step.the-variants.{Pollutant, Engine, Stop, SmallEngine, RunIn, Other, End}
 use Rattle.reading.specs.Steps.{stepAt}
 use Rattle.lines.specs.Writing.{ascii}
 use Rattle.explaining.specs.Sentences.{sentence}
@@ -19,6 +19,7 @@ isEngine (Pollutant number plan limit deviation) = 0
 isEngine (Engine cause measurements) = 1
 isEngine Stop = 0
 isEngine (SmallEngine volume speed date) = 0
+isEngine (RunIn measurements) = 0
 isEngine (Other kind) = 0
 isEngine End = 0
 
@@ -33,6 +34,7 @@ name (Pollutant number plan limit deviation) engine = ascii "pollutant " ++ deci
 name (Engine cause measurements) engine = ascii "engine " ++ decimal engine
 name Stop engine = ascii "stop"
 name (SmallEngine volume speed date) engine = ascii "small engine"
+name (RunIn measurements) engine = ascii "run-in values"
 name (Other kind) engine = ascii "kind " ++ decimal kind
 name End engine = ascii "end"
 

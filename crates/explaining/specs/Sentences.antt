@@ -13,8 +13,8 @@ pub data Sentence : Type 0 where
 infix 80 _means_
 abbrev pub sentences : List Sentence
 sentences =
-    1 means "the sheet is empty, not a whole number of records, or longer than 760 bytes"
-    ∷ 2 means "the record's kind is not 1, 2, 3 or 5"
+    1 means "the sheet is empty, not a whole number of records, or longer than 780 bytes"
+    ∷ 2 means "the record's kind is not 1, 2, 3, 5 or 6"
     ∷ 3 means "the first record is no pollutant, a pollutant follows another kind, or a record follows the stop"
     ∷ 4 means "the pollutant number is not 1 to 4, or not above the one before"
     ∷ 5 means "the plan is not 1 to 5, or unlike the first pollutant's"
@@ -28,6 +28,7 @@ sentences =
     ∷ 16 means "the small engine is a second one, is not straight after the pollutants, or is in plan 4"
     ∷ 17 means "the date is no day of the years 1 to 9999"
     ∷ 18 means "the particulate limit is not the one for the volume, speed and date: 250 or 150"
+    ∷ 19 means "the run-in record is a second one, follows an engine, or is in plan 4"
     ∷ []
 
 -- no words for a number that is not among them

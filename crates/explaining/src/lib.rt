@@ -43,6 +43,7 @@ fn with_name(lines: Lines, step: Step, engine: u32) -> Lines
         Step::Engine { .. } => lines.with_word(b"engine ").with_number(engine),
         Step::Stop => lines.with_word(b"stop"),
         Step::SmallEngine { .. } => lines.with_word(b"small engine"),
+        Step::RunIn { .. } => lines.with_word(b"run-in values"),
         Step::Other { kind } => lines.with_word(b"kind ").with_number(kind),
         Step::End => lines.with_word(b"end"),
     }
@@ -88,15 +89,15 @@ fn with_line(lines: Lines, text: &[u8], number: u8) -> Lines
     lines
 }
 
-// What the refusal of that number means, a line each. Those of a sheet are 1 to 12 and 16 to 18, and the line of any other number is empty.
+// What the refusal of that number means, a line each. Those of a sheet are 1 to 12 and 16 to 19, and the line of any other number is empty.
 fn with_sentence(lines: Lines, number: u8) -> Lines
     ensures { λ l. ⌜ Adds lines l (sentence number) 100 ⌝ }
 {
     with_line(
         lines,
         b"\n\
-        the sheet is empty, not a whole number of records, or longer than 760 bytes\n\
-        the record's kind is not 1, 2, 3 or 5\n\
+        the sheet is empty, not a whole number of records, or longer than 780 bytes\n\
+        the record's kind is not 1, 2, 3, 5 or 6\n\
         the first record is no pollutant, a pollutant follows another kind, or a record follows the stop\n\
         the pollutant number is not 1 to 4, or not above the one before\n\
         the plan is not 1 to 5, or unlike the first pollutant's\n\
@@ -112,7 +113,8 @@ fn with_sentence(lines: Lines, number: u8) -> Lines
         \n\
         the small engine is a second one, is not straight after the pollutants, or is in plan 4\n\
         the date is no day of the years 1 to 9999\n\
-        the particulate limit is not the one for the volume, speed and date: 250 or 150\n",
+        the particulate limit is not the one for the volume, speed and date: 250 or 150\n\
+        the run-in record is a second one, follows an engine, or is in plan 4\n",
         number,
     )
 }

@@ -1,13 +1,13 @@
 -- What the program keeps of the records before one is enough: the refusal by it is document 01's, which looks back at their list.
-use Rattle.arithmetic.proofs.Basics.{ℕ, _+_, _≤_, arith, _≡_, refl, sym, ap, _∙_, Bool, true, false, not, _&&_, _||_, cond, List, [], _∷_, _++_, ltb, eqb}
-use Rattle.arithmetic.proofs.Basics.{length, length-append, length-map, eqb-true, eqb-false, ne-eqb, eq-eqb, not-false, lt-ltb, never, or-false, or-same, or-true}
-use Rattle.arithmetic.proofs.Basics.{and-right, by-test, any-snoc, any-implies, ltb-true, those-append}
+use Rattle.arithmetic.proofs.Basics.{ℕ, _+_, _≤_, arith, _≡_, refl, sym, ap, _∙_, Bool, true, false, not, _&&_, _||_, cond, List, [], _∷_, _++_, leb, ltb, eqb}
+use Rattle.arithmetic.proofs.Basics.{length, length-append, length-map, eqb-true, eqb-false, ne-eqb, eq-eqb, not-false, lt-ltb, never, or-false, or-same, or-swap, or-true}
+use Rattle.arithmetic.proofs.Basics.{and-right, by-test, any-snoc, any-or, any-last, any-implies, ltb-true, ltb-false, those-append}
 use Rattle.rules.specs.Tools.{any, those, within}
-use Rattle.rules.specs.Sheet.{Record, pollutantKind, engineKind, stopKind, smallEngineKind, kind, number, plan, limit, ofKind, heading, engines, stopped, planNumber}
-use Rattle.rules.specs.Sheet.{pollutant, declared}
-use Rattle.rules.specs.Plans.{inService, planOf, lastRow, planCount, numberOf}
-use Rattle.rules.specs.Refusals.{isKind, misplaced, lastKind, badSmallEngine, newest, badNumber, badPlan, badLimit, badDeviation, badCause, tooMany, Fault, fault, first, faults, faultOf}
-use Rattle.accepted.proofs.Faultless.{Clean, clean-join, Faultless, faultless, by-kind, isOther, last-kind, placed-so}
+use Rattle.rules.specs.Sheet.{Record, pollutantKind, engineKind, stopKind, smallEngineKind, runInKind, measures, kind, number, plan, limit, ofKind, heading, engines, stopped, planNumber}
+use Rattle.rules.specs.Sheet.{runIns, pollutant, declared, cause}
+use Rattle.rules.specs.Plans.{Plan, knownDeviation, unknownDeviation, attributes, inService, corrected, planOf, lastRow, planCount, numberOf}
+use Rattle.rules.specs.Refusals.{isKind, misplaced, lastKind, badSmallEngine, badRunIn, newest, badNumber, badPlan, badLimit, badDeviation, badMeasurement, badCause, tooMany, unused, Fault, fault, first, faults, faultOf}
+use Rattle.accepted.proofs.Faultless.{Clean, clean-join, Faultless, faultless, by-kind, isOther, isMeasured, ofKind-none, last-kind, placed-so, small-engine-behind}
 use Rattle.accepted.proofs.Causes.{plan-append}
 use Rattle.accepted.proofs.Engines.{heading-parts, counts}
 use Rattle.accepted.proofs.ByNumber.{limitOf, InOrder, in-order, declared-one, declared-other, newest-snoc, limit-most}
@@ -16,11 +16,12 @@ use Rattle.layout.specs.Sizes.{widthIs}
 use Rattle.record.specs.Quantities.{quantity, quantitiesWith}
 use Rattle.layout.proofs.Sizes.{width-range}
 use Rattle.summary.specs.declared.Summary.{Summary}
-use Rattle.summary.specs.State.{nothing, summaryWith, misplacesOthers, LimitRange, Limits}
+use Rattle.summary.specs.State.{nothing, summaryWith, misplacesOthers, misplacesRunIn, LimitRange, Limits}
 use Rattle.zeros.specs.Zeros.{unusedFromTwelve}
+use Rattle.measurements.specs.Measurements.{badMeasurementBy, badBehind}
 use Rattle.small_engines.specs.SmallEngines.{badSmallEngineBy, smallEngineFault}
-use Rattle.faults.specs.Faults.{badMeasurementBy, badBehind, badCauseBy, pollutantBy, pollutantFault, engineFault, stopFault, faultBy}
-use Rattle.zeros.proofs.ZeroBytes.{pollutant-unused, engine-unused, stop-unused, small-engine-unused}
+use Rattle.faults.specs.Faults.{badCauseBy, pollutantBy, pollutantFault, engineFault, asTwelve, runInFault, stopFault, unmeasuredFault, faultBy}
+use Rattle.zeros.proofs.ZeroBytes.{pollutant-unused, engine-unused, stop-unused, small-engine-unused, run-in-unused}
 use Rattle.faults.proofs.Declared.{zero-quantity, quantity-with, order-last, limit-snoc, measurement-agrees, particulate-agrees, gross-agrees}
 
 abbrev pub isEmpty : List Record → Bool
@@ -34,6 +35,7 @@ pub record Agrees (z : Size) (before : List Record) (s : Summary) : Type 0 where
   pub emptyIs : eqb (s .kind) 0 ≡ isEmpty before
   pub otherIs : ltb pollutantKind (s .kind) ≡ any isOther before
   pub stoppedIs : eqb (s .kind) stopKind ≡ stopped before
+  pub measuredIs : stopped before ≡ false → measures (s .kind) ≡ any isMeasured before
   pub planIs : s .plan ≡ planNumber before
   pub lastRowIs : eqb (s .kind) 0 ≡ false → s .«last_row» ≡ lastRow (planOf (s .plan))
   pub numberIs : s .number ≡ newest (declared before)
@@ -51,6 +53,7 @@ start z =
       emptyIs = refl;
       otherIs = refl;
       stoppedIs = refl;
+      measuredIs = λ e. refl;
       planIs = refl;
       lastRowIs = λ e. never e;
       numberIs = refl;
@@ -94,6 +97,16 @@ small-agrees before s a =
     rw (ne-eqb (s .kind) pollutantKind (λ z. omega arith)) refl)
     (λ e. refl))
 
+-- 19: where there is no stop, the last record is an engine or run-in values if any record is
+run-in-agrees : {z : Size} (before : List Record) (s : Summary) → Agrees z before s → stopped before ≡ false → misplacesRunIn s ≡ badRunIn before
+unfolding badRunIn
+run-in-agrees before s a e =
+    let isEngine : Record → Bool = λ b. eqb (kind b) engineKind in
+    let isRunIn : Record → Bool = λ b. eqb (kind b) runInKind in
+    rw (← a .planIs)
+    (ap (λ (t : Bool). t || eqb (s .plan) (numberOf inService))
+    (or-swap (eqb (s .kind) runInKind) (eqb (s .kind) engineKind) ∙ a .measuredIs e ∙ any-or isEngine isRunIn before ∙ or-swap (any isEngine before) (any isRunIn before)))
+
 plan-agrees : {z : Size} (before : List Record) (s : Summary) → Agrees z before s → (r : Record)
     → not (within 1 planCount (plan r)) || not (eqb (s .kind) 0) && not (eqb (plan r) (s .plan)) ≡ badPlan before r
 unfolding badPlan
@@ -103,6 +116,22 @@ plan-agrees (b ∷ before) s a r = rw (a .emptyIs, a .planIs) refl
 both-bad : (a b : Bool) (n x : ℕ) → cond a n (cond b n x) ≡ cond (a || b) n x
 both-bad true b n x = refl
 both-bad false b n x = refl
+
+-- an engine's refusals as those of run-in values
+as-run-in : (a b c d : Bool) → asTwelve (cond a 8 (cond b 8 (cond c 9 (cond d 12 0)))) ≡ cond (a || b) 8 (cond (d || c) 12 0)
+as-run-in true b c d = refl
+as-run-in false true c d = refl
+as-run-in false false true true = refl
+as-run-in false false true false = refl
+as-run-in false false false true = refl
+as-run-in false false false false = refl
+
+some-rows : (plan : Plan) → leb (lastRow plan) 0 ≡ false
+some-rows knownDeviation = refl
+some-rows unknownDeviation = refl
+some-rows attributes = refl
+some-rows inService = refl
+some-rows corrected = refl
 
 either : (t x y : Bool) → t && x || not t && y ≡ cond t x y
 either true x y = or-same x
@@ -136,7 +165,7 @@ module _ {z : Size} {before : List Record} {s : Summary} (a : Agrees z before s)
   unfolding declared
   counts-fit =
       let ps : List Record = ofKind pollutantKind before in
-      let parts = ap length (heading-parts (widthIs z) [] before (a .clean)) ∙ length-append ps (ofKind smallEngineKind before) in
+      let parts = ap length (heading-parts (widthIs z) [] before (a .clean)) ∙ length-append ps (ofKind smallEngineKind before ++ runIns before) in
       (omega (arith, a .pollutantsIs, length-map ps pollutant, a .headIs, parts), omega (arith, a .headIs, a .enginesIs, counts (widthIs z) before (a .clean)))
 
   module _ (r : Record) where
@@ -189,15 +218,52 @@ module _ {z : Size} {before : List Record} {s : Summary} (a : Agrees z before s)
         )
         (simp first-fault)
 
+    -- run-in values are not in plan 4, and no engine stands before them: of an engine's refusals 9 asks bytes 2 and 3, and 10 nothing
+    run-in-said : kind r ≡ runInKind → misplaced before r ≡ false → badRunIn before ≡ false
+        → asTwelve (engineFault z s r) ≡ cond (badMeasurement (widthIs z) (declared before) r) 8 (cond (unused (widthIs z) r) 12 0)
+    unfolding engineFault badRunIn badCauseBy cause
+    run-in-said k e h =
+        let other : eqb (kind r) pollutantKind ≡ false = rw k refl in
+        let p = or-false _ (eqb (planNumber before) (numberOf inService)) h in
+        let none = ofKind-none engineKind before (or-false (any (λ b. eqb (kind b) runInKind) before) _ (p .0) .1) in
+        rw (
+          misplaced-agrees before s a r other ∙ e,
+          a .lastRowIs (a .emptyIs ∙ not-first before r e other),
+          a .planIs,
+          p .1,
+          a .enginesIs,
+          none,
+          some-rows (planOf (planNumber before)),
+          as-run-in,
+          measurement-agrees (declared before) (s .limits) (a .limitIs) r z order,
+          run-in-unused r (widthIs z) k,
+        ) refl
+
+    engine-misplaced : eqb (kind r) pollutantKind ≡ false → misplaced before r ≡ true → engineFault z s r ≡ 3
+    unfolding engineFault
+    engine-misplaced other e = rw (misplaced-agrees before s a r other, e) refl
+
+    run-in-fault-agrees : kind r ≡ runInKind → runInFault z s r ≡ faultOf (widthIs z) before r
+    unfolding runInFault faultOf faults
+    run-in-fault-agrees k =
+        let other : eqb (kind r) pollutantKind ≡ false = rw k refl in
+        by-test (λ t. runInFault z s r ≡ faultOf (widthIs z) before r) (misplaced before r)
+        (λ e. rw (misplaced-agrees before s a r other, e, engine-misplaced other e, k) refl)
+        (λ e.
+        by-test (λ t. runInFault z s r ≡ faultOf (widthIs z) before r) (badRunIn before)
+        (λ h. rw (misplaced-agrees before s a r other, run-in-agrees before s a (placed-so before r e .1), e, h, k) refl)
+        (λ h. rw (misplaced-agrees before s a r other, run-in-agrees before s a (placed-so before r e .1), e, h, run-in-said k e h, k) (simp first-fault)))
+
     no-kind : isKind (kind r) ≡ false → 2 ≡ faultOf (widthIs z) before r
     unfolding faultOf faults
     no-kind w = rw w refl
 
     pub fault-agrees : faultBy z s r ≡ faultOf (widthIs z) before r
-    unfolding faultBy
+    unfolding faultBy unmeasuredFault
     fault-agrees =
         by-kind (kind r) (λ k. rw k (pollutant-agrees k)) (λ k. rw k (engine-agrees k)) (λ k. rw k (stop-agrees k)) (λ k. rw k (small-engine-agrees k))
-        (λ n w. rw (n pollutantKind refl, n engineKind refl, n stopKind refl, n smallEngineKind refl) (no-kind w))
+        (λ k. rw k (run-in-fault-agrees k))
+        (λ n w. rw (n pollutantKind refl, n engineKind refl, n stopKind refl, n smallEngineKind refl, n runInKind refl) (no-kind w))
 
 -- ---- one record more, which has no fault
 
@@ -223,12 +289,12 @@ module _ {z : Size} {before : List Record} {s : Summary} (a : Agrees z before s)
 
   range : pollutantKind ≤ kind r
   range =
-      by-kind (kind r) (λ k. omega arith) (λ k. omega arith) (λ k. omega arith) (λ k. omega arith) (λ n o. never (sym (ap not o) ∙ f .kinds))
+      by-kind (kind r) (λ k. omega arith) (λ k. omega arith) (λ k. omega arith) (λ k. omega arith) (λ k. omega arith) (λ n o. never (sym (ap not o) ∙ f .kinds))
 
   -- the kinds of a heading
-  heads : eqb (kind r) pollutantKind || eqb (kind r) smallEngineKind ≡ not (eqb (kind r) engineKind || eqb (kind r) stopKind)
+  heads : eqb (kind r) pollutantKind || (eqb (kind r) smallEngineKind || eqb (kind r) runInKind) ≡ not (eqb (kind r) engineKind || eqb (kind r) stopKind)
   heads =
-      by-kind (kind r) (λ k. rw k refl) (λ k. rw k refl) (λ k. rw k refl) (λ k. rw k refl) (λ n o. never (sym (ap not o) ∙ f .kinds))
+      by-kind (kind r) (λ k. rw k refl) (λ k. rw k refl) (λ k. rw k refl) (λ k. rw k refl) (λ k. rw k refl) (λ n o. never (sym (ap not o) ∙ f .kinds))
 
   placed : (eqb (kind r) pollutantKind && any isOther before ≡ false) × (stopped before ≡ false)
   placed = placed-so before r (f .placed)
@@ -244,6 +310,24 @@ module _ {z : Size} {before : List Record} {s : Summary} (a : Agrees z before s)
       (λ e.
       let n : kind r ≡ pollutantKind → ⊥ = eqb-false (kind r) pollutantKind e in
       rw (lt-ltb pollutantKind (kind r) (omega (arith, range))) (or-true (any isOther before))))
+
+  -- behind pollutants alone there is neither an engine nor are there run-in values
+  unmeasured : s .kind ≤ pollutantKind → any isMeasured before ≡ false
+  unmeasured l =
+      sym (a .measuredIs (placed .1)) ∙ rw (ne-eqb (s .kind) engineKind (λ z. omega arith), ne-eqb (s .kind) runInKind (λ z. omega arith)) refl
+
+  measured-more : stopped (before ++ (r ∷ [])) ≡ false → measures (kind r) ≡ any isMeasured (before ++ (r ∷ []))
+  measured-more e =
+      sym (any-snoc isMeasured before r
+      ∙ by-kind (kind r)
+      (λ k. rw (k, unmeasured (ltb-false pollutantKind (s .kind) (a .otherIs ∙ and-right (eqb (kind r) pollutantKind) (any isOther before) (placed .0) (rw k refl)))) refl)
+      (λ k. rw k (or-true (any isMeasured before)))
+      (λ k. never (sym (any-last (λ b. eqb (kind b) stopKind) before r (rw k refl)) ∙ e))
+      (λ k.
+      let l = eqb-true (lastKind before) pollutantKind (not-false _ (small-engine-behind before (f .small (rw k refl)))) in
+      rw (k, unmeasured (omega (arith, a .kindIs, l))) refl)
+      (λ k. rw k (or-true (any isMeasured before)))
+      (λ n o. never (sym (ap not o) ∙ f .kinds)))
 
   begun : eqb (kind r) pollutantKind ≡ false → eqb (s .kind) 0 ≡ false
   begun e = a .emptyIs ∙ not-first before r (f .placed) e
@@ -268,6 +352,7 @@ module _ {z : Size} {before : List Record} {s : Summary} (a : Agrees z before s)
         emptyIs = ne-eqb (kind r) 0 (λ z. omega (arith, range)) ∙ sym (empty-more before r);
         otherIs = other-more;
         stoppedIs = sym (any-snoc (λ b. eqb (kind b) stopKind) before r ∙ rw (placed .1) refl);
+        measuredIs = measured-more;
         planIs =
             by-test (λ t. cond t (plan r) (s .plan) ≡ planNumber all) isOne (λ e. plan-one before r (f .planned e))
             (λ e. a .planIs ∙ sym (plan-append before (r ∷ []) r e (f .placed)));

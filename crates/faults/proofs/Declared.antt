@@ -11,7 +11,8 @@ use Rattle.layout.specs.declared.Size.the-variants.{Twenty, TwentyEight}
 use Rattle.layout.specs.Sizes.{widthIs}
 use Rattle.record.specs.Quantities.{quantity, quantitiesWith}
 use Rattle.small_engines.specs.SmallEngines.{badParticulateBy}
-use Rattle.faults.specs.Faults.{badMeasurementBy, badBehind, exceeds, grossBy}
+use Rattle.measurements.specs.Measurements.{badMeasurementBy, badBehind}
+use Rattle.faults.specs.Faults.{exceeds, grossBy}
 
 -- ---- limits by number
 

@@ -4,7 +4,7 @@ use mathlib.Core.Bool.{Bool, false, not, _&&_, _||_, cond}
 use lib.Dec.{leb, ltb, eqb}
 use Rattle.rules.specs.Tools.{within}
 use Rattle.rules.specs.Logarithm.{greatest}
-use Rattle.rules.specs.Sheet.{Record, pollutantKind, engineKind, stopKind, smallEngineKind, kind, number, plan, limit, deviation, cause, measurement}
+use Rattle.rules.specs.Sheet.{Record, pollutantKind, engineKind, stopKind, smallEngineKind, runInKind, kind, number, plan, limit, deviation, cause, measurement}
 use Rattle.rules.specs.Refusals.{greatestDeviation, greatestCause}
 use Rattle.rules.specs.Plans.{knownDeviation, inService, planCount, numberOf}
 use Rattle.record.specs.declared.Quantities.{Quantities}
@@ -13,7 +13,8 @@ use Rattle.layout.specs.declared.Size.the-variants.{Twenty, TwentyEight}
 use Rattle.layout.specs.Sizes.{widthIs}
 use Rattle.zeros.specs.Zeros.{unusedFromTwelve, pollutantUnused, engineUnused, stopUnused}
 use Rattle.summary.specs.declared.Summary.{Summary}
-use Rattle.summary.specs.State.{misplacesOthers}
+use Rattle.summary.specs.State.{misplacesOthers, misplacesRunIn}
+use Rattle.measurements.specs.Measurements.{badMeasurementBy, badBehind}
 use Rattle.small_engines.specs.SmallEngines.{smallEngineFault}
 
 -- 3 to 7 and 12 of a pollutant, by its numbers, where there are w of them
@@ -28,22 +29,6 @@ pollutantBy w s number plan limit deviation unused =
 
 unfoldable pub pollutantFault : Size → Summary → Record → (rest : Bool) → ℕ
 pollutantFault z s r rest = pollutantBy (widthIs z) s (number r) (plan r) (limit r) (deviation r) (pollutantUnused r rest)
-
--- 8: a limit of 0 stands for an undeclared pollutant
-abbrev pub badValueBy : (limit x : ℕ) → Bool
-badValueBy limit x = cond (not (eqb limit 0)) (not (within 1 greatest x)) (not (eqb x 0))
-
-unfoldable pub badMeasurementBy : (limits : Quantities) → Record → Bool
-badMeasurementBy limits r =
-    badValueBy (limits .co) (measurement r 1)
-    || badValueBy (limits .hc) (measurement r 2)
-    || badValueBy (limits .nox) (measurement r 3)
-    || badValueBy (limits .pm) (measurement r 4)
-
--- of pollutants 5 and 6
-abbrev pub badBehind : Size → (limits : Quantities) → Record → Bool
-badBehind Twenty limits r = false
-badBehind TwentyEight limits r = badValueBy (limits .fifth) (measurement r 5) || badValueBy (limits .sixth) (measurement r 6)
 
 -- 9
 abbrev pub exceeds : (limit x : ℕ) → Bool
@@ -74,6 +59,13 @@ engineFault z s r =
     (cond (leb (s .«last_row») (s .engines)) 10
     (cond (engineUnused r) 12 0)))))
 
+-- 19 of run-in values, behind 3; else what is said of an engine, and 12 for a cause
+abbrev pub asTwelve : (n : ℕ) → ℕ
+asTwelve n = cond (eqb n 9) 12 n
+
+unfoldable pub runInFault : Size → Summary → Record → ℕ
+runInFault z s r = cond (not (misplacesOthers s) && misplacesRunIn s) 19 (asTwelve (engineFault z s r))
+
 -- 3, 11 and 12 of a stop
 unfoldable pub stopFault : Summary → Record → (rest : Bool) → ℕ
 stopFault s r rest =
@@ -81,10 +73,14 @@ stopFault s r rest =
     (cond (eqb (s .plan) (numberOf inService)) 11
     (cond (stopUnused r rest) 12 0))
 
--- 2, of a record of another kind
+-- of a record of that kind, which holds no measurements: 2, of one that is none
+unfoldable pub unmeasuredFault : Size → Summary → Record → (kind : ℕ) → ℕ
+unmeasuredFault z s r k =
+    cond (eqb k pollutantKind) (pollutantFault z s r (unusedFromTwelve z r))
+    (cond (eqb k stopKind) (stopFault s r (unusedFromTwelve z r))
+    (cond (eqb k smallEngineKind) (smallEngineFault s r (unusedFromTwelve z r)) 2))
+
 unfoldable pub faultBy : Size → Summary → Record → ℕ
 faultBy z s r =
     cond (eqb (kind r) engineKind) (engineFault z s r)
-    (cond (eqb (kind r) pollutantKind) (pollutantFault z s r (unusedFromTwelve z r))
-    (cond (eqb (kind r) stopKind) (stopFault s r (unusedFromTwelve z r))
-    (cond (eqb (kind r) smallEngineKind) (smallEngineFault s r (unusedFromTwelve z r)) 2)))
+    (cond (eqb (kind r) runInKind) (runInFault z s r) (unmeasuredFault z s r (kind r)))

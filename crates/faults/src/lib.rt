@@ -2,14 +2,17 @@
 ghost use mathlib.Core.Path.{_≡_};
 ghost use Rattle.rules.specs.Sheet.{measurement};
 ghost use Rattle.summary.specs.State.{LimitRange, Limits};
-ghost use Rattle.faults.specs.Faults.{badValueBy, badBehind, badMeasurementBy, exceeds, exceedsBehind, grossBy, badCauseBy};
-ghost use Rattle.faults.specs.Faults.{pollutantBy, pollutantFault, engineFault, stopFault, faultBy};
+ghost use Rattle.faults.specs.Faults.{exceeds, exceedsBehind, grossBy, badCauseBy};
+ghost use Rattle.faults.specs.Faults.{pollutantBy, pollutantFault, engineFault, stopFault, unmeasuredFault, faultBy};
 use layout::Size;
+use measurements::bad_behind;
+use measurements::bad_measurement;
 use numbers::byte_at;
 use plan::Plan;
 use record::ENGINE;
 use record::POLLUTANT;
 use record::Quantities;
+use record::RUN_IN;
 use record::SMALL_ENGINE;
 use record::STOP;
 use record::cause_of;
@@ -86,38 +89,6 @@ fn pollutant_fault(size: Size, s: Summary, r: &[u8], rest: bool) -> u8
         deviation_of(r),
         pollutant_unused(r, rest),
     )
-}
-
-// 8, of pollutant p, whose limit is 0 where it is not declared.
-fn bad_value(limit: u32, r: &[u8], p: u32) -> bool
-    ensures { λ b. ⌜ b ≡ badValueBy limit (measurement (now (r .entry)) p) ⌝ }
-{
-    let x = measurement_of(r, p);
-    if limit == 0 {
-        x != 0
-    } else {
-        !((1 <= x) & (x <= GREATEST))
-    }
-}
-
-// "8, measurement, also one not zero of an undeclared pollutant", of pollutants 1 to 4.
-fn bad_measurement(limits: Quantities, r: &[u8]) -> bool
-    ensures { λ b. ⌜ b ≡ badMeasurementBy limits (now (r .entry)) ⌝ }
-{
-    bad_value(limits.co, r, 1)
-        | bad_value(limits.hc, r, 2)
-        | bad_value(limits.nox, r, 3)
-        | bad_value(limits.pm, r, 4)
-}
-
-// The same of pollutants 5 and 6, which a record of 28 bytes alone has measurements of.
-fn bad_behind(size: Size, limits: Quantities, r: &[u8]) -> bool
-    ensures { λ b. ⌜ b ≡ badBehind size limits (now (r .entry)) ⌝ }
-{
-    match size {
-        Size::Twenty => false,
-        Size::TwentyEight => bad_value(limits.fifth, r, 5) | bad_value(limits.sixth, r, 6),
-    }
 }
 
 // "2x > 3L", of a declared pollutant p: x is above L and half of L, rounded down, which stays within 32 bits.
@@ -214,17 +185,10 @@ fn stop_fault(s: Summary, r: &[u8], rest: bool) -> u8
     0
 }
 
-// The refusal number of the record r after those of which s tells, 0 where it has no fault; "2, kind not 1 to 3", and 02, F-1: "record kind 5".
-// Engines are asked for first, since most records are engines.
-// For `checking` alone, whose loop reads on only behind limits that are in range: so it may require.
-pub fn fault_of(size: Size, s: Summary, r: &[u8]) -> u8
-    requires { ⌜ Limits (s .limits) ⌝ }
-    ensures { λ n. ⌜ n ≡ faultBy size s (now (r .entry)) ⌝ }
+// The refusal of a record of that kind, which holds no measurements; "2, kind not 1 to 3", and 02, F-1: "record kind 5".
+fn unmeasured_fault(size: Size, s: Summary, r: &[u8], kind: u32) -> u8
+    ensures { λ n. ⌜ n ≡ unmeasuredFault size s (now (r .entry)) kind ⌝ }
 {
-    let kind = kind_of(r);
-    if kind == ENGINE {
-        return engine_fault(size, s, r);
-    }
     let rest = unused_from_twelve(size, r);
     if kind == POLLUTANT {
         pollutant_fault(size, s, r, rest)
@@ -235,4 +199,29 @@ pub fn fault_of(size: Size, s: Summary, r: &[u8]) -> u8
     } else {
         2
     }
+}
+
+// The refusal number of the record r after those of which s tells, 0 where it has no fault.
+// Engines are asked for first, since most records are engines. "refusals 8 and 12 read it as they read an engine": so do these run-in values, but that
+// a cause, their bytes 2 and 3, is refused by 12. For both there is one call: with one for each the compiler left it outside the check's loop.
+// For `checking` alone, whose loop reads on only behind limits that are in range: so it may require.
+pub fn fault_of(size: Size, s: Summary, r: &[u8]) -> u8
+    requires { ⌜ Limits (s .limits) ⌝ }
+    ensures { λ n. ⌜ n ≡ faultBy size s (now (r .entry)) ⌝ }
+{
+    let kind = kind_of(r);
+    if kind != ENGINE {
+        if kind != RUN_IN {
+            return unmeasured_fault(size, s, r, kind);
+        }
+        // 02, F-2: "19, ..", which 3 comes before
+        if !s.misplaces_others() & s.misplaces_run_in() {
+            return 19;
+        }
+    }
+    let fault = engine_fault(size, s, r);
+    if (fault == 9) & (kind == RUN_IN) {
+        return 12;
+    }
+    fault
 }

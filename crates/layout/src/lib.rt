@@ -22,10 +22,11 @@ impl Size {
 
     pub const TWENTY_EIGHT: usize = 28;
 
-    // The bytes of the longest sheet. 02, F-1: "A sheet may hold 38 records.", and F-10: "two records more than the old maximum".
-    pub const LONGEST_OF_TWENTY: usize = 38 * Size::TWENTY;
+    // The bytes of the longest sheet. 02, F-1: "A sheet may hold 38 records.", F-2: "The record limit rises by one.", and F-10: "two records
+    // more than the old maximum".
+    pub const LONGEST_OF_TWENTY: usize = 39 * Size::TWENTY;
 
-    pub const LONGEST_OF_TWENTY_EIGHT: usize = 40 * Size::TWENTY_EIGHT;
+    pub const LONGEST_OF_TWENTY_EIGHT: usize = 41 * Size::TWENTY_EIGHT;
 
     // The size of so many bytes.
     pub fn of(bytes: usize) -> Named

@@ -6,7 +6,7 @@ use lib.Dec.{leb}
 use lib.ListN.{length, drop}
 use Rattle.rules.specs.Sizes.{recordsSized}
 use Rattle.reading.specs.declared.Step.{Step}
-use Rattle.reading.specs.declared.Step.the-variants.{Pollutant, Engine, Stop, SmallEngine, Other, End}
+use Rattle.reading.specs.declared.Step.the-variants.{Pollutant, Engine, Stop, SmallEngine, RunIn, Other, End}
 
 -- the number after k moves: behind the last record it stays
 unfoldable pub reached : (s : ℕ) (b : List ℕ) (k : ℕ) → ℕ
@@ -18,6 +18,7 @@ numbersOf (Pollutant number plan limit deviation) = 1 ∷ number ∷ plan ∷ li
 numbersOf (Engine cause x) = 2 ∷ cause ∷ x .co ∷ x .hc ∷ x .nox ∷ x .pm ∷ x .fifth ∷ x .sixth ∷ []
 numbersOf Stop = 3 ∷ 0 ∷ 0 ∷ 0 ∷ 0 ∷ 0 ∷ 0 ∷ 0 ∷ []
 numbersOf (SmallEngine volume speed date) = 5 ∷ volume ∷ speed ∷ date ∷ 0 ∷ 0 ∷ 0 ∷ 0 ∷ []
+numbersOf (RunIn x) = 6 ∷ 0 ∷ x .co ∷ x .hc ∷ x .nox ∷ x .pm ∷ x .fifth ∷ x .sixth ∷ []
 numbersOf (Other kind) = 100 ∷ kind ∷ 0 ∷ 0 ∷ 0 ∷ 0 ∷ 0 ∷ 0 ∷ []
 numbersOf End = 101 ∷ 0 ∷ 0 ∷ 0 ∷ 0 ∷ 0 ∷ 0 ∷ 0 ∷ []
 

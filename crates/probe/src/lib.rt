@@ -90,6 +90,16 @@ fn numbers_of(step: Step) -> [u32; 8]
             speed,
             date,
         } => [5, volume, speed, date, 0, 0, 0, 0],
+        Step::RunIn { measurements } => [
+            6,
+            0,
+            measurements.co,
+            measurements.hc,
+            measurements.nox,
+            measurements.pm,
+            measurements.fifth,
+            measurements.sixth,
+        ],
         Step::Other { kind } => [100, kind, 0, 0, 0, 0, 0, 0],
         Step::End => [101, 0, 0, 0, 0, 0, 0, 0],
     }

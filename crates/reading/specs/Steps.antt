@@ -5,20 +5,27 @@ use mathlib.Core.List.{List, []}
 use lib.Dec.{ltb, eqb}
 use lib.ListN.{length, getD}
 use denote.Ref.{RefT, now}
-use Rattle.rules.specs.Sheet.{Record, size, pollutantKind, engineKind, stopKind, smallEngineKind, kind, number, plan, limit, deviation, cause, measurement, volume, speed, date}
+use Rattle.rules.specs.Sheet.{Record, size, pollutantKind, engineKind, stopKind, smallEngineKind, runInKind, kind, number, plan, limit, deviation, cause, measurement, volume, speed, date}
 use Rattle.rules.specs.Sizes.{sized, recordsSized}
+use Rattle.record.specs.declared.Quantities.{Quantities}
 use Rattle.reading.specs.declared.SheetReader.{SheetReader}
 use Rattle.reading.specs.declared.Step.{Step}
-use Rattle.reading.specs.declared.Step.the-variants.{Pollutant, Engine, Stop, SmallEngine, Other, End}
+use Rattle.reading.specs.declared.Step.the-variants.{Pollutant, Engine, Stop, SmallEngine, RunIn, Other, End}
 use Rattle.reading.specs.declared.Turn.{Turn}
 
--- "Byte 0 is the kind". Of a pollutant "byte 1 pollutant number ..; byte 2 plan ..; bytes 4-7 limit L; bytes 8-11 deviation t", of an engine "bytes 2-3 cause; bytes 4-19 four u32 measurements, pollutant 1 first", and 02, F-10, "measurements 5 and 6"; of kind 5, by 02, F-1, "bytes 2-3 swept volume per cylinder in cm³, bytes 4-5 rated speed per minute, bytes 8-11 test date"
+-- "bytes 4-19 four u32 measurements, pollutant 1 first", and 02, F-10, "measurements 5 and 6"
+abbrev pub measurementsIn : Record → Quantities
+measurementsIn r =
+    record { co = measurement r 1; hc = measurement r 2; nox = measurement r 3; pm = measurement r 4; fifth = measurement r 5; sixth = measurement r 6 }
+
+-- "Byte 0 is the kind". Of a pollutant "byte 1 pollutant number ..; byte 2 plan ..; bytes 4-7 limit L; bytes 8-11 deviation t", of an engine "bytes 2-3 cause" and the measurements; of kind 5, by 02, F-1, "bytes 2-3 swept volume per cylinder in cm³, bytes 4-5 rated speed per minute, bytes 8-11 test date"; of kind 6, by F-2, values "laid out as measurements"
 unfoldable pub stepOf : Record → Step
 stepOf r =
     cond (eqb (kind r) pollutantKind) (Pollutant (number r) (plan r) (limit r) (deviation r))
-    (cond (eqb (kind r) engineKind) (Engine (cause r) (record { co = measurement r 1; hc = measurement r 2; nox = measurement r 3; pm = measurement r 4; fifth = measurement r 5; sixth = measurement r 6 }))
+    (cond (eqb (kind r) engineKind) (Engine (cause r) (measurementsIn r))
     (cond (eqb (kind r) stopKind) Stop
-    (cond (eqb (kind r) smallEngineKind) (SmallEngine (volume r) (speed r) (date r)) (Other (kind r)))))
+    (cond (eqb (kind r) smallEngineKind) (SmallEngine (volume r) (speed r) (date r))
+    (cond (eqb (kind r) runInKind) (RunIn (measurementsIn r)) (Other (kind r))))))
 
 -- how many whole records so many bytes are
 unfoldable pub wholeRecords : (s bytes : ℕ) → ℕ

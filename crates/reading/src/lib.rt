@@ -1,12 +1,13 @@
 // "A sheet under reading is the lent bytes and the number of the next record": a struct over the slice, with the size of its records, and few functions over it.
 // Each takes the struct apart and leaves the work to a function on size, slice and number.
 ghost use mathlib.Core.Path.{_≡_};
-ghost use Rattle.reading.specs.Steps.{wholeRecords, stepAt, leftAt, nextAt, reader, advanced, turnAt};
+ghost use Rattle.reading.specs.Steps.{measurementsIn, wholeRecords, stepAt, leftAt, nextAt, reader, advanced, turnAt};
 use layout::Named;
 use layout::Size;
 use record::ENGINE;
 use record::POLLUTANT;
 use record::Quantities;
+use record::RUN_IN;
 use record::SMALL_ENGINE;
 use record::STOP;
 use record::cause_of;
@@ -21,7 +22,7 @@ use record::small_engine::date_of;
 use record::small_engine::speed_of;
 use record::small_engine::volume_of;
 
-// What stands at a number: a record of one of the four kinds, one of a kind that there is not, or the end of the whole records.
+// What stands at a number: a record of one of the five kinds, one of a kind that there is not, or the end of the whole records.
 pub enum Step {
     Pollutant {
         number: u32,
@@ -39,6 +40,9 @@ pub enum Step {
         speed: u32,
         date: u32,
     },
+    RunIn {
+        measurements: Quantities,
+    },
     Other {
         kind: u32,
     },
@@ -52,6 +56,20 @@ fn whole_records(size: usize, bytes: usize) -> usize
     match Size::of(size) {
         Named::Known(size) => size.records_in(bytes),
         Named::Unknown => 0,
+    }
+}
+
+// The measurements of an engine, or run-in values.
+fn measurements_of(r: &[u8]) -> Quantities
+    ensures { λ q. ⌜ q ≡ measurementsIn (now (r .entry)) ⌝ }
+{
+    Quantities {
+        co: measurement_of(r, 1),
+        hc: measurement_of(r, 2),
+        nox: measurement_of(r, 3),
+        pm: measurement_of(r, 4),
+        fifth: measurement_of(r, 5),
+        sixth: measurement_of(r, 6),
     }
 }
 
@@ -76,17 +94,9 @@ pub fn step_at(size: usize, bytes: &[u8], at: usize) -> Step
         };
     }
     if kind == ENGINE {
-        let measurements = Quantities {
-            co: measurement_of(r, 1),
-            hc: measurement_of(r, 2),
-            nox: measurement_of(r, 3),
-            pm: measurement_of(r, 4),
-            fifth: measurement_of(r, 5),
-            sixth: measurement_of(r, 6),
-        };
         return Step::Engine {
             cause: cause_of(r),
-            measurements,
+            measurements: measurements_of(r),
         };
     }
     if kind == STOP {
@@ -100,6 +110,11 @@ pub fn step_at(size: usize, bytes: &[u8], at: usize) -> Step
             volume,
             speed,
             date,
+        };
+    }
+    if kind == RUN_IN {
+        return Step::RunIn {
+            measurements: measurements_of(r),
         };
     }
     Step::Other { kind }

@@ -17,7 +17,8 @@ use numbers::u32_present;
 
 pub mod small_engine;
 
-// The kinds of a record: a pollutant, an engine or vehicle, testing stopped by the manufacturer, and what makes an engine a small one.
+// The kinds of a record: a pollutant, an engine or vehicle, testing stopped by the manufacturer, what makes an engine a small one, and the
+// first engine's values after running-in.
 pub const POLLUTANT: u32 = 1;
 
 pub const ENGINE: u32 = 2;
@@ -25,6 +26,8 @@ pub const ENGINE: u32 = 2;
 pub const STOP: u32 = 3;
 
 pub const SMALL_ENGINE: u32 = 5;
+
+pub const RUN_IN: u32 = 6;
 
 // A number for each pollutant, "carbon monoxide, hydrocarbons, nitrogen oxides, particulates", and for the two more that 02, F-10, does not name.
 pub struct Quantities {
@@ -110,7 +113,8 @@ pub fn cause_of(r: &[u8]) -> u32
     u16_at(r, 2)
 }
 
-// "bytes 4-19 four u32 measurements, pollutant 1 first"; 02, F-10: "measurements 5 and 6" behind them
+// "bytes 4-19 four u32 measurements, pollutant 1 first"; 02, F-10: "measurements 5 and 6" behind them; F-2: run-in values are "laid out as
+// measurements"
 pub fn measurement_of(r: &[u8], p: u32) -> u32
     ensures { λ n. ⌜ n ≡ measurement (now (r .entry)) p ⌝ }
 {
@@ -118,7 +122,7 @@ pub fn measurement_of(r: &[u8], p: u32) -> u32
 }
 
 // The measurement of pollutant p in record k of a sheet, where the sheet lies: a column is read record after record, and no record is asked how long it is.
-// For `statistics` alone, which asks for engines of an accepted sheet: so it may require.
+// For `statistics` alone, which asks for engines and run-in values of an accepted sheet: so it may require.
 pub fn measurement_at(size: Size, sheet: &[u8], k: usize, p: u32) -> u32
     requires { ⌜ MeasurementRange (widthIs size) k p (length (now sheet)) ⌝ }
     ensures { λ n. ⌜ n ≡ measurement (recordAt (widthIs size) (now (sheet .entry)) k) p ⌝ }

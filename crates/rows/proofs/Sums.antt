@@ -1,9 +1,10 @@
--- D and W from the sums that the program makes, for every number q of squarings; W is never negative.
-use Rattle.arithmetic.proofs.Basics.{_≡_, ap, _∙_, true, List, [], _∷_, map, ℕ, _+_, _-_, _*_, _≤_, arith, leb·zero, length, pos, _-ℤ_, leZ, twice}
+-- D and W from the sums that the program makes, for every number q of squarings; W is the same for every limit and correction, and never
+-- negative.
+use Rattle.arithmetic.proofs.Basics.{_≡_, sym, ap, _∙_, true, List, [], _∷_, map, ℕ, _+_, _-_, _*_, _≤_, arith, leb·zero, length, pos, _-ℤ_, leZ, twice}
 use Rattle.arithmetic.proofs.Integers.{Diff, diff-pos, diff-add, diff-minus, diff-mul, diff-move, diff-eq}
 use Rattle.rules.specs.Tools.{total, square}
-use Rattle.rules.specs.Logarithm.{g, d, D, W}
-use Rattle.rows.specs.Sums.{sumG, squaresG}
+use Rattle.rules.specs.Logarithm.{Correction, g, d, D, W}
+use Rattle.rows.specs.Sums.{sumG, squaresG, gain, level}
 
 module _ (q : ℕ) where
   -- ---- the square of the sum is at most the number times the squares
@@ -18,31 +19,40 @@ module _ (q : ℕ) where
 
   -- ---- D and W
 
-  pub D-diff : (L : ℕ) (xs : List ℕ) → Diff (D q L xs) (sumG q xs) (length xs * g q L)
-  unfolding total
-  D-diff L [] = diff-move (diff-pos 0) (omega arith)
-  D-diff L (x ∷ xs) = diff-move (diff-add (diff-minus (diff-pos (g q x)) (diff-pos (g q L))) (D-diff L xs)) (omega arith)
+  module _ (L : ℕ) (c : Correction) where
+    d-diff : (x : ℕ) → Diff (d q L c x) (g q x + gain q c) (level q L c)
+    d-diff x =
+        let e = diff-add (diff-pos (g q x)) (diff-pos (gain q c)) in
+        diff-move (diff-minus (diff-minus e (diff-pos (g q (c .first)))) (diff-pos (g q L))) (omega arith)
 
-  squares-diff : (L : ℕ) (xs : List ℕ)
-      → Diff (total (map (λ x. square (d q L x)) xs)) (squaresG q xs + length xs * (g q L * g q L)) (2 * (g q L * sumG q xs))
-  unfolding total
-  squares-diff L [] = diff-move (diff-pos 0) (omega arith)
-  squares-diff L (x ∷ xs) =
-      let e = diff-minus (diff-pos (g q x)) (diff-pos (g q L)) in
-      diff-move (diff-add (diff-mul e e) (squares-diff L xs)) (omega arith)
+    D-diff : (xs : List ℕ) → Diff (D q L c xs) (sumG q xs + length xs * gain q c) (length xs * level q L c)
+    unfolding total
+    D-diff [] = diff-move (diff-pos 0) (omega arith)
+    D-diff (x ∷ xs) = diff-move (diff-add (d-diff x) (D-diff xs)) (omega arith)
 
-  -- W does not depend on the limit
-  W-diff : (L : ℕ) (xs : List ℕ) → Diff (W q L xs) (length xs * squaresG q xs) (sumG q xs * sumG q xs)
-  W-diff L xs =
-      let s = D-diff L xs in
-      diff-move (diff-minus (diff-mul (diff-pos (length xs)) (squares-diff L xs)) (diff-mul s s)) (omega arith)
+    squares-diff : (xs : List ℕ)
+        → Diff (total (map (λ x. square (d q L c x)) xs))
+        (squaresG q xs + 2 * (gain q c * sumG q xs) + length xs * (gain q c * gain q c + level q L c * level q L c))
+        (2 * (level q L c * sumG q xs) + 2 * (length xs * (gain q c * level q L c)))
+    unfolding total
+    squares-diff [] = diff-move (diff-pos 0) (omega arith)
+    squares-diff (x ∷ xs) = diff-move (diff-add (diff-mul (d-diff x) (d-diff x)) (squares-diff xs)) (omega arith)
 
-  pub D-is : (L : ℕ) (xs : List ℕ) → D q L xs ≡ pos (sumG q xs) -ℤ pos (length xs * g q L)
-  D-is L xs = diff-eq (D-diff L xs) (diff-minus (diff-pos (sumG q xs)) (diff-pos (length xs * g q L))) (omega arith)
+    W-diff : (xs : List ℕ) → Diff (W q L c xs) (length xs * squaresG q xs) (sumG q xs * sumG q xs)
+    W-diff xs =
+        let s = D-diff xs in
+        diff-move (diff-minus (diff-mul (diff-pos (length xs)) (squares-diff xs)) (diff-mul s s)) (omega arith)
 
-  pub W-is : (L : ℕ) (xs : List ℕ) → W q L xs ≡ pos (length xs * squaresG q xs - sumG q xs * sumG q xs)
-  W-is L xs = diff-eq (W-diff L xs) (diff-pos (length xs * squaresG q xs - sumG q xs * sumG q xs)) (omega (arith, cauchy xs))
+    pub D-is : (xs : List ℕ) → D q L c xs ≡ pos (sumG q xs + length xs * gain q c) -ℤ pos (length xs * level q L c)
+    D-is xs = diff-eq (D-diff xs) (diff-minus (diff-pos (sumG q xs + length xs * gain q c)) (diff-pos (length xs * level q L c))) (omega arith)
 
-  -- "W = .., never negative"
-  pub W-never-negative : (L : ℕ) (xs : List ℕ) → leZ (pos 0) (W q L xs) ≡ true
-  W-never-negative L xs = ap (leZ (pos 0)) (W-is L xs) ∙ leb·zero (length xs * squaresG q xs - sumG q xs * sumG q xs)
+    pub W-is : (xs : List ℕ) → W q L c xs ≡ pos (length xs * squaresG q xs - sumG q xs * sumG q xs)
+    W-is xs = diff-eq (W-diff xs) (diff-pos (length xs * squaresG q xs - sumG q xs * sumG q xs)) (omega (arith, cauchy xs))
+
+    -- "W = .., never negative"
+    pub W-never-negative : (xs : List ℕ) → leZ (pos 0) (W q L c xs) ≡ true
+    W-never-negative xs = ap (leZ (pos 0)) (W-is xs) ∙ leb·zero (length xs * squaresG q xs - sumG q xs * sumG q xs)
+
+  -- W moves with no constant: limit and correction add the same to every d_j, and it stays
+  pub W-same : (L M : ℕ) (c e : Correction) (xs : List ℕ) → W q L c xs ≡ W q M e xs
+  W-same L M c e xs = W-is L c xs ∙ sym (W-is M e xs)

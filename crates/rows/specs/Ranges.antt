@@ -14,20 +14,20 @@ pub record RowRange (n : ℕ) : Type 0 where
   pub least : 3 ≤ n
   pub most : n ≤ lastRow attributes
 
--- the most of a logarithm, which is below 24 × 2^20
-abbrev pub logarithmMost : ℕ
-logarithmMost = 25165824
+-- the most of a level, which is two logarithms, each below 24 × 2^20
+abbrev pub levelMost : ℕ
+levelMost = 50331648
 
--- the most that is added or taken away: a sum of up to 32 logarithms
+-- the most that is added or taken away: two logarithms for each of up to 32 engines
 abbrev pub sumMost : ℕ
-sumMost = 805306368
+sumMost = 1610612736
 
--- plan 1: a row's number, the sum of the measurements' logarithms, the limit's logarithm, and the deviation
+-- plan 1: a row's number, what is added, the level, and the deviation
 pub record KnownRanges (n added level deviation : ℕ) : Type 0 where
   pub least : 3 ≤ n
   pub most : n ≤ 32
   pub added-most : added ≤ sumMost
-  pub level-most : level ≤ logarithmMost
+  pub level-most : level ≤ levelMost
   pub deviation-most : deviation ≤ greatestDeviation
 
 -- plans 2, 4 and 5: the number of a row of the plan, and D as what is added and what is taken away

@@ -29,7 +29,7 @@ const LOGARITHM_UNIT: u64 = 1048576;
 const LOG_OF_TWO: u64 = 693147181;
 
 // Plan 1, known deviation: "Pass if T × 693,147,181 > A × t × ..; fail if less than the same with B."; 02, F-9: "1,048,576 in g itself, in plan 1".
-// `added` is the sum of the measurements' logarithms and `level` the limit's logarithm, so T is n × level − added; `table` is the plan's, lent.
+// D is added − n × level, and T is n × level − added; `table` is the plan's, lent.
 // Each term that document 01 has with a minus stands on the other side, so that all is unsigned.
 // For `statistics` alone, with sums over the engines of an accepted sheet: so it may require.
 pub fn known_row(n: u64, table: &[[i32; 2]], added: u64, level: u64, deviation: u64) -> Row

@@ -1,12 +1,12 @@
--- Document 01, "The series", its last part but one: the words of demand 3, about the bytes of whole sheets.
+-- Document 01, "The series", its last part but one, and document 02, F-2: the words of demand 3, about the bytes of whole sheets.
 use Prim.Native.Nat.{ℕ, _+_, _*_, _≤_, _<_}
 use mathlib.Core.Path.{_≡_}
-use mathlib.Core.Bool.{Bool, false, _&&_}
-use mathlib.Core.List.{List}
-use lib.Dec.{leb, eqb}
-use lib.ListN.{length, take}
+use mathlib.Core.Bool.{Bool, true, false, _&&_}
+use mathlib.Core.List.{List, []}
+use lib.Dec.{leb}
+use lib.ListN.{length, getD, take}
 use Rattle.rules.specs.Tools.{byte, four}
-use Rattle.rules.specs.Sheet.{size, engineKind, records, engines, planNumber}
+use Rattle.rules.specs.Sheet.{Record, size, measures, records, measurement, engines, runIns, planNumber}
 use Rattle.rules.specs.Plans.{Plan, planOf}
 use Rattle.rules.specs.Series.{Pair, Answer, judgement}
 use Rattle.rules.specs.Operations.{judge}
@@ -53,9 +53,9 @@ module _ (w : ℕ) where
   abbrev pub planOfSheet : List ℕ → Plan
   planOfSheet b = planOf (planNumber (records w b))
 
-  -- byte k of record j lies in a measurement
+  -- byte k of record j lies in a measurement; 02, F-2: "On a run-in sheet the run-in values are measurements too"
   abbrev pub inMeasurement : List ℕ → (j k : ℕ) → Bool
-  inMeasurement b j k = eqb (byte b (size w * j)) engineKind && leb 4 k
+  inMeasurement b j k = measures (byte b (size w * j)) && leb 4 k
 
   -- "Two sheets are alike in all but the measurements if they are equally long and every byte outside the measurements is the same in both"
   pub record Alike (R S : List ℕ) : Type 0 where
@@ -65,5 +65,16 @@ module _ (w : ℕ) where
 
   -- "none is higher in the second if each is at most the one of the same record and pollutant in the first"
   abbrev pub NoneHigher : (R S : List ℕ) → Type 0
-  NoneHigher R S = (j p : ℕ) → size w * j < length R → byte R (size w * j) ≡ engineKind → 1 ≤ p → p ≤ w
+  NoneHigher R S = (j p : ℕ) → size w * j < length R → measures (byte R (size w * j)) ≡ true → 1 ≤ p → p ≤ w
       → four S (size w * j + 4 * p) ≤ four R (size w * j + 4 * p)
+
+  -- the sheet has no record of kind 6, which a run-in sheet has
+  abbrev pub NotRunIn : List ℕ → Type 0
+  NotRunIn b = runIns (records w b) ≡ []
+
+  abbrev pub firstEngine : List ℕ → Record
+  firstEngine b = getD (engines (records w b)) 0 []
+
+  -- 02, F-2: "lowering keeps its meaning there", on a run-in sheet, "if the first engine's zero-hour values are the same in both sheets"
+  abbrev pub SameZeroHours : (R S : List ℕ) → Type 0
+  SameZeroHours R S = (NotRunIn R → ⊥) → (p : ℕ) → 1 ≤ p → p ≤ w → measurement (firstEngine S) p ≡ measurement (firstEngine R) p

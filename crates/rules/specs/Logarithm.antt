@@ -1,10 +1,10 @@
--- Document 01, "The logarithm", and document 02, F-9.
+-- Document 01, "The logarithm", and document 02, F-2 and F-9.
 use Prim.Native.Nat.{ℕ, zero, suc, _+_, _-_, _*_, _/_, _^_}
 use mathlib.Core.Bool.{Bool, not, cond}
 use mathlib.Core.List.{List, map}
 use lib.Dec.{leb}
 use lib.ListN.{length}
-use lib.IntN.{ℤ, pos, _-ℤ_, _*ℤ_}
+use lib.IntN.{ℤ, pos, _+ℤ_, _-ℤ_, _*ℤ_}
 use Rattle.rules.specs.Tools.{within, total, square}
 
 -- 02, F-9: "Take twenty steps in place of sixteen": every definition below is over the number q of squarings, and this is where twenty is put in
@@ -48,14 +48,24 @@ logarithm q m = exponent m * 2 ^ q + bits q 0 (m * 2 ^ (31 - exponent m))
 unfoldable pub g : (q m : ℕ) → ℕ
 g q m = cond (within 1 greatest m) (logarithm q m) 0
 
--- "For a limit L, engine j has d_j = g(x_j) − g(L)"
-abbrev pub d : (q L x : ℕ) → ℤ
-d q L x = pos (g q x) -ℤ pos (g q L)
+-- 02, F-2: "Makers run in the first engine and correct the others": a pollutant's value after running-in, and x_1, the first engine's
+-- measurement
+pub record Correction : Type 0 where
+  pub value : ℕ
+  pub first : ℕ
+
+-- without running-in two equal numbers, 1 and 1: g(1) is 0, and a product with 1 is the number itself
+abbrev pub uncorrected : Correction
+uncorrected = record { value = 1; first = 1 }
+
+-- 02, F-2: "Each d_j becomes g(x_j) + g(value) − g(x_1) − g(L)"; without running-in "engine j has d_j = g(x_j) − g(L)"
+abbrev pub d : (q L : ℕ) → Correction → (x : ℕ) → ℤ
+d q L c x = pos (g q x) +ℤ pos (g q (c .value)) -ℤ pos (g q (c .first)) -ℤ pos (g q L)
 
 -- "D is the sum of the d_j over n engines"
-abbrev pub D : (q L : ℕ) → List ℕ → ℤ
-D q L xs = total (map (d q L) xs)
+abbrev pub D : (q L : ℕ) → Correction → List ℕ → ℤ
+D q L c xs = total (map (d q L c) xs)
 
 -- "W = n × (sum of d_j squared) − D squared"
-abbrev pub W : (q L : ℕ) → List ℕ → ℤ
-W q L xs = pos (length xs) *ℤ total (map (λ x. square (d q L x)) xs) -ℤ square (D q L xs)
+abbrev pub W : (q L : ℕ) → Correction → List ℕ → ℤ
+W q L c xs = pos (length xs) *ℤ total (map (λ x. square (d q L c x)) xs) -ℤ square (D q L c xs)

@@ -1,5 +1,5 @@
--- Document 01, "Plans", and document 02, F-6 and F-9: last rows, decision numbers, and what a row says of one pollutant.
-use Prim.Native.Nat.{ℕ, _+_, _-_, _/_, _^_}
+-- Document 01, "Plans", and document 02, F-2, F-6 and F-9: last rows, decision numbers, and what a row says of one pollutant.
+use Prim.Native.Nat.{ℕ, _+_, _-_, _*_, _/_, _^_}
 use mathlib.Core.Bool.{Bool, not, _&&_, _||_, cond}
 use mathlib.Core.List.{List, [], _∷_}
 use lib.Dec.{leb, ltb, eqb}
@@ -7,7 +7,7 @@ use lib.ListN.{length, getD}
 use lib.IntN.{ℤ, pos, negℤ, _+ℤ_, _-ℤ_, _*ℤ_}
 use lib.Signed.{ltZ, leZ}
 use Rattle.rules.specs.Tools.{those, square}
-use Rattle.rules.specs.Logarithm.{D, W}
+use Rattle.rules.specs.Logarithm.{Correction, D, W}
 
 pub data Plan : Type 0 where
   knownDeviation unknownDeviation attributes inService corrected : Plan
@@ -117,9 +117,9 @@ rootFails B D W = atLeastRoot (pos 100000 *ℤ D) B W
 
 -- ---- 3, attributes (001, App. 3)
 
--- "c = engines with x > L"
-abbrev pub countOver : (L : ℕ) → List ℕ → ℕ
-countOver L xs = length (those (λ x. ltb L x) xs)
+-- 02, F-2: "attributes compare x_j × value with L × x_1"; without running-in "c = engines with x > L"
+abbrev pub countOver : (L : ℕ) → Correction → List ℕ → ℕ
+countOver L c xs = length (those (λ x. ltb (L * c .first) (x * c .value)) xs)
 
 -- "Pass if c ≤ (n−4)/2 rounded down, never at n = 3", "At 19: pass up to 8"
 unfoldable pub attributesPasses : (n c : ℕ) → Bool
@@ -144,21 +144,21 @@ correctedNumbers n =
     (cond (eqb n 32) (record { A = pos 3876; B = pos 3876 })
     (unknownNumbers n))
 
--- ---- the row n of a plan, for the limit L, the deviation t and the n measurements xs
+-- ---- the row n of a plan, for the limit L, the deviation t, the correction and the n measurements xs
 
-unfoldable pub rowPasses : Plan → (q n L t : ℕ) → List ℕ → Bool
-rowPasses knownDeviation q n L t xs = knownPasses q n (D q L xs) t
-rowPasses unknownDeviation q n L t xs = rootPasses (unknownNumbers n .A) (D q L xs) (W q L xs)
-rowPasses attributes q n L t xs = attributesPasses n (countOver L xs)
-rowPasses inService q n L t xs = rootPasses (inServiceNumbers n .A) (D q L xs) (W q L xs)
-rowPasses corrected q n L t xs = rootPasses (correctedNumbers n .A) (D q L xs) (W q L xs)
+unfoldable pub rowPasses : Plan → (q n L t : ℕ) → Correction → List ℕ → Bool
+rowPasses knownDeviation q n L t c xs = knownPasses q n (D q L c xs) t
+rowPasses unknownDeviation q n L t c xs = rootPasses (unknownNumbers n .A) (D q L c xs) (W q L c xs)
+rowPasses attributes q n L t c xs = attributesPasses n (countOver L c xs)
+rowPasses inService q n L t c xs = rootPasses (inServiceNumbers n .A) (D q L c xs) (W q L c xs)
+rowPasses corrected q n L t c xs = rootPasses (correctedNumbers n .A) (D q L c xs) (W q L c xs)
 
-unfoldable pub rowFails : Plan → (q n L t : ℕ) → List ℕ → Bool
-rowFails knownDeviation q n L t xs = knownFails q n (D q L xs) t
-rowFails unknownDeviation q n L t xs = rootFails (unknownNumbers n .B) (D q L xs) (W q L xs)
-rowFails attributes q n L t xs = attributesFails n (countOver L xs)
-rowFails inService q n L t xs = rootFails (inServiceNumbers n .B) (D q L xs) (W q L xs)
-rowFails corrected q n L t xs = rootFails (correctedNumbers n .B) (D q L xs) (W q L xs)
+unfoldable pub rowFails : Plan → (q n L t : ℕ) → Correction → List ℕ → Bool
+rowFails knownDeviation q n L t c xs = knownFails q n (D q L c xs) t
+rowFails unknownDeviation q n L t c xs = rootFails (unknownNumbers n .B) (D q L c xs) (W q L c xs)
+rowFails attributes q n L t c xs = attributesFails n (countOver L c xs)
+rowFails inService q n L t c xs = rootFails (inServiceNumbers n .B) (D q L c xs) (W q L c xs)
+rowFails corrected q n L t c xs = rootFails (correctedNumbers n .B) (D q L c xs) (W q L c xs)
 
-unfoldable pub row : Plan → (q n L t : ℕ) → List ℕ → Row
-row plan q n L t xs = decide (rowPasses plan q n L t xs) (eqb n (lastRow plan)) (rowFails plan q n L t xs)
+unfoldable pub row : Plan → (q n L t : ℕ) → Correction → List ℕ → Row
+row plan q n L t c xs = decide (rowPasses plan q n L t c xs) (eqb n (lastRow plan)) (rowFails plan q n L t c xs)

@@ -1,4 +1,4 @@
--- Document 01, "What each operation turns down": refusals 1 to 12 of a sheet, and document 02's 16 to 18, in their order.
+-- Document 01, "What each operation turns down": refusals 1 to 12 of a sheet, and document 02's 16 to 19, in their order.
 use Prim.Native.Nat.{ℕ, _-_, _*_, _%_}
 use mathlib.Core.Bool.{Bool, true, false, not, _&&_, _||_, cond}
 use mathlib.Core.List.{List, [], _∷_, _++_}
@@ -6,15 +6,15 @@ use lib.Dec.{leb, ltb, eqb}
 use lib.ListN.{length, take, drop}
 use Rattle.rules.specs.Tools.{any, within}
 use Rattle.rules.specs.Logarithm.{greatest}
-use Rattle.rules.specs.Sheet.{Record, Pollutant, size, most, records, numbers, pollutantKind, engineKind, stopKind, smallEngineKind, kind, number, plan, limit, deviation, cause, measurement, volume, speed, date, engines, stopped, planNumber, declared, declares, gross}
+use Rattle.rules.specs.Sheet.{Record, Pollutant, size, most, records, numbers, pollutantKind, engineKind, stopKind, smallEngineKind, runInKind, measures, kind, number, plan, limit, deviation, cause, measurement, volume, speed, date, engines, stopped, planNumber, declared, declares, gross}
 use Rattle.rules.specs.Calendar.{isDay}
 use Rattle.rules.specs.Plans.{knownDeviation, inService, planCount, numberOf, planOf, lastRow}
 
 -- ---- the faults of a record r that stands after the faultless records `before`
 
--- "2, kind not 1 to 3"; 02, F-1: "Add record kind 5"
+-- "2, kind not 1 to 3"; 02, F-1: "Add record kind 5"; F-2: "Record kind 6"
 abbrev pub isKind : (kind : ℕ) → Bool
-isKind k = within pollutantKind stopKind k || eqb k smallEngineKind
+isKind k = within pollutantKind stopKind k || within smallEngineKind runInKind k
 
 -- "3, first record not kind 1, kind 1 after another kind, or anything after kind 3"
 unfoldable pub misplaced : (before : List Record) → Record → Bool
@@ -52,6 +52,13 @@ unfoldable pub badParticulate : List Pollutant → Record → Bool
 badParticulate ps r =
     any (λ c. eqb (c .number) particulates && not (eqb (c .limit) (particulateLimit (volume r) (speed r) (date r)))) ps
 
+-- 02, F-2: "19, a second kind 6, one after an engine or in plan 4"
+unfoldable pub badRunIn : (before : List Record) → Bool
+badRunIn before =
+    any (λ b. eqb (kind b) runInKind) before
+    || any (λ b. eqb (kind b) engineKind) before
+    || eqb (planNumber before) (numberOf inService)
+
 -- the number of the last declared pollutant, 0 where there is none
 abbrev pub newest : List Pollutant → ℕ
 newest [] = 0
@@ -78,7 +85,7 @@ greatestDeviation = 4000000
 unfoldable pub badDeviation : Record → Bool
 badDeviation r = cond (eqb (plan r) (numberOf knownDeviation)) (not (within 1 greatestDeviation (deviation r))) (not (eqb (deviation r) 0))
 
--- "8, measurement, also one not zero of an undeclared pollutant"
+-- "8, measurement, also one not zero of an undeclared pollutant"; 02, F-2: "refusals 8 and 12 read it as they read an engine"
 abbrev pub badValue : List Pollutant → Record → (p : ℕ) → Bool
 badValue ps r p = cond (declares ps p) (not (within 1 greatest (measurement r p))) (not (eqb (measurement r p) 0))
 
@@ -102,20 +109,21 @@ tooMany before = leb (lastRow (planOf (planNumber before))) (length (engines bef
 unfoldable pub nonzero : Record → (a e : ℕ) → Bool
 nonzero r a e = any (λ x. not (eqb x 0)) (take (e - a) (drop a r))
 
--- "12, another byte that must be zero", of each kind
+-- "12, another byte that must be zero", of each kind; 02, F-2: "bytes 1-3 are zero"
 unfoldable pub unused : (w : ℕ) → Record → Bool
 unused w r =
     eqb (kind r) pollutantKind && (nonzero r 3 4 || nonzero r 12 (size w))
     || eqb (kind r) engineKind && nonzero r 1 2
     || eqb (kind r) stopKind && nonzero r 1 (size w)
     || eqb (kind r) smallEngineKind && (nonzero r 1 2 || nonzero r 6 8 || nonzero r 12 (size w))
+    || eqb (kind r) runInKind && nonzero r 1 4
 
 -- a refusal's number, and whether the record has that fault
 pub data Fault : Type 0 where
   fault : (number : ℕ) → (present : Bool) → Fault
 
 -- "in it the lowest of": the list is in the order of the refusals, and the first that is present counts; 0 where none is. The order is
--- the list's and not that of the numbers: 02, F-1, has 16 "after 3", 17 "after 16", 18 "after 17"
+-- the list's and not that of the numbers: 02, F-1, has 16 "after 3", 17 "after 16", 18 "after 17"; F-2 has 19 "after 18"
 abbrev pub first : List Fault → ℕ
 first [] = 0
 first (fault k true ∷ fs) = k
@@ -128,11 +136,12 @@ faults w before r =
     ∷ fault 16 (eqb (kind r) smallEngineKind && badSmallEngine before)
     ∷ fault 17 (eqb (kind r) smallEngineKind && badDate r)
     ∷ fault 18 (eqb (kind r) smallEngineKind && badParticulate (declared before) r)
+    ∷ fault 19 (eqb (kind r) runInKind && badRunIn before)
     ∷ fault 4 (eqb (kind r) pollutantKind && badNumber w before r)
     ∷ fault 5 (eqb (kind r) pollutantKind && badPlan before r)
     ∷ fault 6 (eqb (kind r) pollutantKind && badLimit r)
     ∷ fault 7 (eqb (kind r) pollutantKind && badDeviation r)
-    ∷ fault 8 (eqb (kind r) engineKind && badMeasurement w (declared before) r)
+    ∷ fault 8 (measures (kind r) && badMeasurement w (declared before) r)
     ∷ fault 9 (eqb (kind r) engineKind && badCause (planNumber before) (declared before) r)
     ∷ fault 10 (eqb (kind r) engineKind && tooMany before)
     ∷ fault 11 (eqb (kind r) stopKind && eqb (planNumber before) (numberOf inService))
@@ -155,7 +164,8 @@ checkFrom w before [] = accepted
 checkFrom w before (r ∷ rs) =
     cond (eqb (faultOf w before r) 0) (checkFrom w (before ++ (r ∷ [])) rs) (refused (faultOf w before r) (length before))
 
--- "1, no bytes, a length not a multiple of 20, or over 740 bytes", which 02, F-1, makes 760: "A sheet may hold 38 records."
+-- "1, no bytes, a length not a multiple of 20, or over 740 bytes", which 02, F-1, makes 760, "A sheet may hold 38 records.", and F-2 makes
+-- 780, "The record limit rises by one."
 unfoldable pub badLength : (w bytes : ℕ) → Bool
 badLength w n = eqb n 0 || not (eqb (n % size w) 0) || ltb (most w * size w) n
 

@@ -1,11 +1,13 @@
--- Document 01, "The series": rows from 3, all declared pollutants together, and what judging answers.
+-- Document 01, "The series": rows from 3, all declared pollutants together, and what judging answers; and document 02, F-2: the correction
+-- by the run-in values.
 use Prim.Native.Nat.{ℕ, zero, suc, _-_}
 use mathlib.Core.Bool.{Bool, true, false, _&&_, _||_, cond}
 use mathlib.Core.List.{List, [], _∷_, map}
 use lib.Dec.{leb, ltb, eqb}
-use lib.ListN.{length, take, drop}
+use lib.ListN.{length, getD, take, drop}
 use Rattle.rules.specs.Tools.{any, all, those}
-use Rattle.rules.specs.Sheet.{Record, Pollutant, numbers, measurement, cause, gross, engines, stopped, declared, planNumber}
+use Rattle.rules.specs.Sheet.{Record, Pollutant, numbers, measurement, cause, gross, engines, runIns, stopped, declared, planNumber}
+use Rattle.rules.specs.Logarithm.{Correction, uncorrected}
 use Rattle.rules.specs.Plans.{Plan, knownDeviation, unknownDeviation, attributes, inService, corrected, planOf, Row, pass, fail, undecided, row}
 
 -- a pollutant's decision and its engine
@@ -67,13 +69,21 @@ lookedAt n r isOpen = decidedAt n r
 lookedAt n r (passedAt m) = passedAt m
 lookedAt n r (failedAt m) = failedAt m
 
--- row n on one pollutant, with the first n engines
-unfoldable pub look : Plan → (q n : ℕ) → (first : List Record) → Standing → Standing
-look plan q n first s =
+-- the correction of the pollutant p by the run-in values, "the first engine's values after running-in", and the first of the engines
+abbrev pub correction : (runIns first : List Record) → (p : ℕ) → Correction
+correction [] first p = uncorrected
+correction (v ∷ vs) first p = record { value = measurement v p; first = measurement (getD first 0 []) p }
+
+-- row n on one pollutant, with the run-in values and the first n engines
+unfoldable pub look : Plan → (runIns : List Record) → (q n : ℕ) → (first : List Record) → Standing → Standing
+look plan vs q n first s =
     let p = s .pollutant in
     record {
       pollutant = p;
-      decision = lookedAt n (row plan q n (p .limit) (p .deviation) (map (λ r. measurement r (p .number)) first)) (s .decision);
+      decision =
+          lookedAt n
+          (row plan q n (p .limit) (p .deviation) (correction vs first (p .number)) (map (λ r. measurement r (p .number)) first))
+          (s .decision);
     }
 
 abbrev pub hasFailed : Decision → Bool
@@ -98,27 +108,27 @@ settle n ss = settleBy (any (λ s. hasFailed (s .decision)) ss) (all (λ s. hasP
 -- ---- the walk
 
 -- row n of a series that is going on: "Equal cause, a stop and referral leave open pollutants open."
-abbrev pub rowBy : Before → Plan → (q n : ℕ) → (first : List Record) → List Standing → Series
-rowBy early plan q n first ss = ongoing ss
-rowBy equalCause plan q n first ss = failed n 2 ss
-rowBy referral plan q n first ss = referred n ss
-rowBy leftOpen plan q n first ss = ongoing ss
-rowBy statistics plan q n first ss = settle n (map (look plan q n first) ss)
+abbrev pub rowBy : Before → Plan → (runIns : List Record) → (q n : ℕ) → (first : List Record) → List Standing → Series
+rowBy early plan vs q n first ss = ongoing ss
+rowBy equalCause plan vs q n first ss = failed n 2 ss
+rowBy referral plan vs q n first ss = referred n ss
+rowBy leftOpen plan vs q n first ss = ongoing ss
+rowBy statistics plan vs q n first ss = settle n (map (look plan vs q n first) ss)
 
 -- row n of any series: "Engines after the decision are checked and counted for nothing."
-abbrev pub walk : Plan → List Pollutant → (q n : ℕ) → (first : List Record) → Series → Series
-walk plan ps q n first (ongoing ss) = rowBy (beforeRow plan ps n first) plan q n first ss
-walk plan ps q n first (passed m ss) = passed m ss
-walk plan ps q n first (failed m ground ss) = failed m ground ss
-walk plan ps q n first (referred m ss) = referred m ss
+abbrev pub walk : Plan → List Pollutant → (runIns : List Record) → (q n : ℕ) → (first : List Record) → Series → Series
+walk plan ps vs q n first (ongoing ss) = rowBy (beforeRow plan ps n first) plan vs q n first ss
+walk plan ps vs q n first (passed m ss) = passed m ss
+walk plan ps vs q n first (failed m ground ss) = failed m ground ss
+walk plan ps vs q n first (referred m ss) = referred m ss
 
 unfoldable pub unlooked : Pollutant → Standing
 unlooked p = record { pollutant = p; decision = isOpen }
 
 -- the series after the first n of the engines es
-unfoldable pub after : Plan → List Pollutant → (q : ℕ) → (es : List Record) → (n : ℕ) → Series
-after plan ps q es zero = ongoing (map unlooked ps)
-after plan ps q es (suc n) = walk plan ps q (suc n) (take (suc n) es) (after plan ps q es n)
+unfoldable pub after : Plan → List Pollutant → (runIns : List Record) → (q : ℕ) → (es : List Record) → (n : ℕ) → Series
+after plan ps vs q es zero = ongoing (map unlooked ps)
+after plan ps vs q es (suc n) = walk plan ps vs q (suc n) (take (suc n) es) (after plan ps vs q es n)
 
 -- ---- what judging answers
 
@@ -156,4 +166,5 @@ answer w false n (ongoing ss) = judgement 0 n 0 (pairs w ss)
 -- the answer for the records of a sheet that the check accepts
 unfoldable pub judgeRecords : (w q : ℕ) → List Record → Answer
 judgeRecords w q rs =
-    answer w (stopped rs) (length (engines rs)) (after (planOf (planNumber rs)) (declared rs) q (engines rs) (length (engines rs)))
+    answer w (stopped rs) (length (engines rs))
+    (after (planOf (planNumber rs)) (declared rs) (runIns rs) q (engines rs) (length (engines rs)))

@@ -21,12 +21,12 @@ Record = List ℕ
 abbrev pub size : (w : ℕ) → ℕ
 size w = 4 + 4 * w
 
--- 02, F-1: "A sheet may hold 38 records.": each pollutant once, a small engine, 32 engines and a stop; F-10: "A sheet of the new size
--- holds two records more than the old maximum"
+-- 02, F-1: "A sheet may hold 38 records.", and F-2: "The record limit rises by one.": each pollutant once, a small engine, the run-in
+-- values, 32 engines and a stop; F-10: "A sheet of the new size holds two records more than the old maximum"
 abbrev pub most : (w : ℕ) → ℕ
-most w = w + 34
+most w = w + 35
 
--- the same for document 01's four pollutants: 20 bytes, 38 records, 760 bytes
+-- the same for document 01's four pollutants: 20 bytes, 39 records, 780 bytes
 abbrev pub recordSize : ℕ
 recordSize = size pollutants
 
@@ -46,7 +46,7 @@ unfoldable pub records : (w : ℕ) → List ℕ → List Record
 records w b = cut (size w) (length b / size w) b
 
 -- "Byte 0 is the kind": 1 pollutant, 2 engine or vehicle, 3 testing stopped by the manufacturer; 02, F-1: "record kind 5", what makes an
--- engine a small one
+-- engine a small one; 02, F-2: "Record kind 6", the first engine's values after running-in
 abbrev pub pollutantKind : ℕ
 pollutantKind = 1
 
@@ -58,6 +58,13 @@ stopKind = 3
 
 abbrev pub smallEngineKind : ℕ
 smallEngineKind = 5
+
+abbrev pub runInKind : ℕ
+runInKind = 6
+
+-- the kinds that hold measurements; 02, F-2: "On a run-in sheet the run-in values are measurements too"
+abbrev pub measures : (kind : ℕ) → Bool
+measures k = eqb k engineKind || eqb k runInKind
 
 unfoldable pub kind : Record → ℕ
 kind r = byte r 0
@@ -75,7 +82,8 @@ limit r = four r 4
 unfoldable pub deviation : Record → ℕ
 deviation r = four r 8
 
--- kind 2: "bytes 2-3 cause; bytes 4-19 four u32 measurements, pollutant 1 first"; 02, F-10: "the new ones zero or measurements 5 and 6"
+-- kind 2: "bytes 2-3 cause; bytes 4-19 four u32 measurements, pollutant 1 first"; 02, F-10: "the new ones zero or measurements 5 and 6";
+-- and kind 6, 02, F-2: "laid out as measurements"
 unfoldable pub cause : Record → ℕ
 cause r = two r 2
 
@@ -99,6 +107,10 @@ ofKind k rs = those (λ r. eqb (kind r) k) rs
 -- "Its engines are its records of kind 2"
 abbrev pub engines : List Record → List Record
 engines rs = ofKind engineKind rs
+
+-- 02, F-2: a run-in sheet has one, and no other sheet has any
+abbrev pub runIns : List Record → List Record
+runIns rs = ofKind runInKind rs
 
 -- the records of every other kind but a stop: on an accepted sheet, those before the first engine
 unfoldable pub heading : List Record → List Record

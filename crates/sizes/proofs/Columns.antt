@@ -4,7 +4,8 @@ use Rattle.arithmetic.proofs.Basics.{ℕ, zero, suc, _+_, _*_, _<_, add-zero, a
 use Rattle.arithmetic.proofs.Basics.{cond, List, [], _∷_, _++_, map, map-map, append-nil, append-assoc, eqb, ltb, length, take, replicate, replicate-append-replicate}
 use Rattle.arithmetic.proofs.Basics.{ne-eqb, ltb-false, le-ltb, or-false, or-same, by-test, any-append, map-append}
 use Rattle.rules.specs.Tools.{any, all}
-use Rattle.rules.specs.Sheet.{Record, Pollutant, records, numbers, pollutantKind, kind, number, ofKind, engines, planNumber, pollutant, declared, declares, stopped}
+use Rattle.rules.specs.Sheet.{Record, Pollutant, records, numbers, pollutantKind, kind, number, ofKind, engines, runIns, planNumber, pollutant, declared}
+use Rattle.rules.specs.Sheet.{declares, stopped}
 use Rattle.rules.specs.Plans.{Plan, planOf}
 use Rattle.rules.specs.Series.{Standing, Series, ongoing, passed, failed, referred, Before, early, equalCause, referral, leftOpen, statistics, beforeRow, look}
 use Rattle.rules.specs.Series.{settle, settleBy, hasFailed, hasPassed, unlooked, rowBy, walk, after, Pair, pair, isOpen, pairOf, decisionOf, pairs, judgement, answer, judgeRecords}
@@ -12,7 +13,7 @@ use Rattle.rules.specs.Refusals.{accepted, check}
 use Rattle.rules.specs.Operations.{pairBytes, reportBytes}
 use Rattle.rules.specs.Sizes.{openPairs}
 use Rattle.rules.specs.Converter.{widenedRecord, above}
-use Rattle.accepted.proofs.Faultless.{sound, ofKind-append}
+use Rattle.accepted.proofs.Faultless.{Clean, sound, ofKind-append}
 use Rattle.accepted.proofs.ByNumber.{InOrder, in-order}
 use Rattle.answers.proofs.Answers.{seriesOf}
 
@@ -44,8 +45,11 @@ none-above w m [] h = refl
 none-above w m (c ∷ ps) h = rw (le-ltb w (c .number) (h .1)) (none-above w (c .number) ps (h .5))
 
 -- an accepted sheet of w pollutants declares none above
+pub clean-above : (w : ℕ) (rs : List Record) → Clean w [] rs → above w (declared rs) ≡ false
+clean-above w rs c = none-above w _ (declared rs) (in-order w [] rs c)
+
 pub own-above : (w : ℕ) (b : List ℕ) → check w b ≡ accepted → above w (declared (records w b)) ≡ false
-own-above w b e = none-above w _ (declared (records w b)) (in-order w [] (records w b) (sound w b e .clean))
+own-above w b e = clean-above w (records w b) (sound w b e .clean)
 
 pub undeclared-above : (w : ℕ) (ps : List Pollutant) → above w ps ≡ false → (p : ℕ) → w < p → declares ps p ≡ false
 unfolding declares
@@ -75,20 +79,20 @@ settle-standings n ss = cases (any (λ s. hasFailed (s .decision)) ss) (all (λ 
     cases false true = refl
     cases false false = refl
 
-module _ (plan : Plan) (q : ℕ) where
-  look-pollutants : (n : ℕ) (first : List Record) (ss : List Standing) → pollutantsOf (map (look plan q n first) ss) ≡ pollutantsOf ss
+module _ (plan : Plan) (vs : List Record) (q : ℕ) where
+  look-pollutants : (n : ℕ) (first : List Record) (ss : List Standing) → pollutantsOf (map (look plan vs q n first) ss) ≡ pollutantsOf ss
   unfolding look
-  look-pollutants n first ss = map-map (λ s. s .pollutant) (look plan q n first) ss
+  look-pollutants n first ss = map-map (λ s. s .pollutant) (look plan vs q n first) ss
 
-  row-pollutants : (b : Before) (n : ℕ) (first : List Record) (ss : List Standing) → pollutantsOf (standingsOf (rowBy b plan q n first ss)) ≡ pollutantsOf ss
+  row-pollutants : (b : Before) (n : ℕ) (first : List Record) (ss : List Standing) → pollutantsOf (standingsOf (rowBy b plan vs q n first ss)) ≡ pollutantsOf ss
   row-pollutants early n first ss = refl
   row-pollutants equalCause n first ss = refl
   row-pollutants referral n first ss = refl
   row-pollutants leftOpen n first ss = refl
-  row-pollutants statistics n first ss = ap pollutantsOf (settle-standings n (map (look plan q n first) ss)) ∙ look-pollutants n first ss
+  row-pollutants statistics n first ss = ap pollutantsOf (settle-standings n (map (look plan vs q n first) ss)) ∙ look-pollutants n first ss
 
   module _ (ps : List Pollutant) where
-    walk-pollutants : (n : ℕ) (first : List Record) (s : Series) → pollutantsOf (standingsOf (walk plan ps q n first s)) ≡ pollutantsOf (standingsOf s)
+    walk-pollutants : (n : ℕ) (first : List Record) (s : Series) → pollutantsOf (standingsOf (walk plan ps vs q n first s)) ≡ pollutantsOf (standingsOf s)
     walk-pollutants n first (ongoing ss) = row-pollutants (beforeRow plan ps n first) n first ss
     walk-pollutants n first (passed m ss) = refl
     walk-pollutants n first (failed m ground ss) = refl
@@ -99,10 +103,10 @@ module _ (plan : Plan) (q : ℕ) where
     unlooked-pollutants [] = refl
     unlooked-pollutants (c ∷ cs) = rw (unlooked-pollutants cs) refl
 
-    after-pollutants : (es : List Record) (n : ℕ) → pollutantsOf (standingsOf (after plan ps q es n)) ≡ ps
+    after-pollutants : (es : List Record) (n : ℕ) → pollutantsOf (standingsOf (after plan ps vs q es n)) ≡ ps
     unfolding after
     after-pollutants es zero = unlooked-pollutants ps
-    after-pollutants es (suc n) = walk-pollutants (suc n) (take (suc n) es) (after plan ps q es n) ∙ after-pollutants es n
+    after-pollutants es (suc n) = walk-pollutants (suc n) (take (suc n) es) (after plan ps vs q es n) ∙ after-pollutants es n
 
 -- ---- judging
 
@@ -139,7 +143,7 @@ pub judge-columns : (w k q : ℕ) (rs : List Record) → above w (declared rs) �
 unfolding judgeRecords
 judge-columns w k q rs a =
     answer-columns w k (stopped rs) (length (engines rs)) (seriesOf q rs)
-    (rw (after-pollutants (planOf (planNumber rs)) q (declared rs) (engines rs) (length (engines rs))) a)
+    (rw (after-pollutants (planOf (planNumber rs)) (runIns rs) q (declared rs) (engines rs) (length (engines rs))) a)
 
 -- ---- the report: the same bytes, and zeros behind
 

@@ -3,7 +3,7 @@ use Rattle.arithmetic.proofs.Basics.{ℕ, zero, suc, _+_, _-_, _*_, _/_, _%_, _
 use Rattle.arithmetic.proofs.Basics.{eqb, length, take, drop, replicate, length-drop, length-take-le, take-append-drop, getD-take, getD-drop, getD-replicate, ext-getD}
 use Rattle.arithmetic.proofs.Basics.{length-replicate, eqb-true, not-false, never, or-false, or-same, any-none}
 use Rattle.rules.specs.Tools.{byte, four}
-use Rattle.rules.specs.Sheet.{Record, size, kind, measurement, declared}
+use Rattle.rules.specs.Sheet.{Record, Pollutant, size, kind, measurement, declared}
 use Rattle.rules.specs.Refusals.{badValue, badMeasurement, nonzero, unused, faultOf}
 use Rattle.rules.specs.Converter.{above, widenedRecord, narrowedRecord}
 use Rattle.accepted.proofs.Faultless.{Clean, faultless, by-kind}
@@ -46,21 +46,30 @@ zero-of-four r j (suc (suc (suc (suc m)))) e h = absurd (omega arith)
 -- pollutants.)
 
 module _ (w k : ℕ) (room : 2 ≤ w) where
+  -- "8, measurement, also one not zero of an undeclared pollutant": an engine's, and a run-in value
+  undeclared-zero : (ps : List Pollutant) (r : Record) → badMeasurement (w + k) ps r ≡ false → above w ps ≡ false
+      → (i : ℕ) → size w ≤ i → i < size (w + k) → byte r i ≡ 0
+  unfolding badMeasurement measurement
+  undeclared-zero ps r m a i l h =
+      let p : ℕ = i / 4 in
+      let s : 4 * p + i % 4 ≡ i = omega arith in
+      let b = none-of (badValue ps r) (w + k) m p (omega arith) (omega arith) in
+      let z = eqb-true (four r (4 * p)) 0 (not-false _ (rw (undeclared-above w ps a p (omega arith)) at b)) in
+      rw s at (zero-of-four r (4 * p) (i % 4) z (omega arith))
+
   pub zero-above : (before : List Record) (r : Record) → faultOf (w + k) before r ≡ 0 → above w (declared before) ≡ false
       → (i : ℕ) → size w ≤ i → i < size (w + k) → byte r i ≡ 0
-  unfolding unused badMeasurement measurement
+  unfolding unused
   zero-above before r f a i l h =
       let g = faultless (w + k) before r f in
       by-kind (kind r)
       (λ e. zero-byte r 12 (size (w + k)) i (or-false (nonzero r 3 4) (nonzero r 12 (size (w + k))) (simp or-same at (rw e at (g .zeroed))) .1) (omega arith) h)
-      (λ e.
-      let p : ℕ = i / 4 in
-      let s : 4 * p + i % 4 ≡ i = omega arith in
-      let b = none-of (badValue (declared before) r) (w + k) (g .measured (rw e refl)) p (omega arith) (omega arith) in
-      let z = eqb-true (four r (4 * p)) 0 (not-false _ (rw (undeclared-above w (declared before) a p (omega arith)) at b)) in
-      rw s at (zero-of-four r (4 * p) (i % 4) z (omega arith)))
+      (λ e. undeclared-zero (declared before) r (g .measured (rw e refl)) a i l h)
       (λ e. zero-byte r 1 (size (w + k)) i (simp or-same at (rw e at (g .zeroed))) (omega arith) h)
-      (λ e. zero-byte r 12 (size (w + k)) i (or-false (nonzero r 1 2 || nonzero r 6 8) (nonzero r 12 (size (w + k))) (rw e at (g .zeroed)) .1) (omega arith) h)
+      (λ e.
+      let z = or-false (nonzero r 1 2 || nonzero r 6 8) (nonzero r 12 (size (w + k))) (simp or-same at (rw e at (g .zeroed))) in
+      zero-byte r 12 (size (w + k)) i (z .1) (omega arith) h)
+      (λ e. undeclared-zero (declared before) r (g .measured (rw e refl)) a i l h)
       (λ n o. never (sym (ap not o) ∙ g .kinds))
 
   pub widened-again : (before rs : List Record) → Full (size (w + k)) rs → Clean (w + k) before rs → above w (declared before) ≡ false

@@ -1,16 +1,16 @@
 -- Two records that read the same at every place, past their ends too, where a byte counts as 0: a record and its widened form are such.
 -- Every field, every fault and every row is the same.
 use Rattle.arithmetic.proofs.Basics.{ℕ, zero, suc, _+_, _-_, _*_, _≡_, refl, sym, ap, Bool, true, false, not, _||_, cond, List, [], _∷_, _++_, map, ltb, eqb}
-use Rattle.arithmetic.proofs.Basics.{length, take, drop, replicate, any-part, any-same}
+use Rattle.arithmetic.proofs.Basics.{length, getD, take, drop, replicate, any-part, any-same}
 use Rattle.arithmetic.proofs.Pairs.{Pairs, none, more, pairs-length, pairs-take, pairs-drop, pairs-follow, pairs-those, same-map, same-any}
 use Rattle.rules.specs.Tools.{any, those, byte, two, four}
-use Rattle.rules.specs.Sheet.{Record, Pollutant, size, numbers, pollutantKind, engineKind, stopKind, smallEngineKind, kind, number, plan, limit, deviation, cause, measurement}
-use Rattle.rules.specs.Sheet.{volume, speed, date, ofKind, engines, heading, stopped, planNumber, pollutant, declared, gross}
+use Rattle.rules.specs.Sheet.{Record, Pollutant, size, numbers, pollutantKind, engineKind, stopKind, smallEngineKind, runInKind, kind, number, plan}
+use Rattle.rules.specs.Sheet.{limit, deviation, cause, measurement, volume, speed, date, ofKind, engines, heading, stopped, planNumber, pollutant, declared, gross}
 use Rattle.rules.specs.Plans.{Plan, knownDeviation, unknownDeviation, attributes, inService, corrected, planOf}
 use Rattle.rules.specs.Series.{Standing, Series, ongoing, passed, failed, referred, Before, early, equalCause, referral, leftOpen, statistics, inServiceBefore}
-use Rattle.rules.specs.Series.{beforeRow, look, rowBy, walk, after, answer, judgeRecords}
-use Rattle.rules.specs.Refusals.{misplaced, lastKind, badSmallEngine, badDate, badParticulate, badNumber, badPlan, badLimit, badDeviation, badValue, badMeasurement}
-use Rattle.rules.specs.Refusals.{badCause, tooMany, nonzero, unused, faults, faultOf}
+use Rattle.rules.specs.Series.{beforeRow, correction, look, rowBy, walk, after, answer, judgeRecords}
+use Rattle.rules.specs.Refusals.{misplaced, lastKind, badSmallEngine, badRunIn, badDate, badParticulate, badNumber, badPlan, badLimit, badDeviation}
+use Rattle.rules.specs.Refusals.{badValue, badMeasurement, badCause, tooMany, nonzero, unused, faults, faultOf}
 use Rattle.rules.specs.Converter.{widenedRecord}
 use Rattle.accepted.proofs.Faultless.{isOther}
 
@@ -114,12 +114,15 @@ same-ofKind : (k : ℕ) {rs ts : List Record} → Pairs SameBytes rs ts → Pair
 unfolding ofKind
 same-ofKind k r = same-those (λ a. eqb (kind a) k) (same-test k) r
 
+same-some : (k : ℕ) {rs ts : List Record} → Pairs SameBytes rs ts → any (λ a. eqb (kind a) k) rs ≡ any (λ b. eqb (kind b) k) ts
+same-some k r = same-any (λ a. eqb (kind a) k) (λ b. eqb (kind b) k) (same-test k) r
+
 pub same-heading : {rs ts : List Record} → Pairs SameBytes rs ts → Pairs SameBytes (heading rs) (heading ts)
 unfolding heading
 same-heading r = same-those (λ a. not (eqb (kind a) engineKind || eqb (kind a) stopKind)) (λ a b s. rw (same-kind a b s) refl) r
 
 same-stopped : {rs ts : List Record} → Pairs SameBytes rs ts → stopped rs ≡ stopped ts
-same-stopped r = same-any (λ a. eqb (kind a) stopKind) (λ b. eqb (kind b) stopKind) (same-test stopKind) r
+same-stopped r = same-some stopKind r
 
 same-planNumber : {rs ts : List Record} → Pairs SameBytes rs ts → planNumber rs ≡ planNumber ts
 unfolding planNumber
@@ -145,12 +148,11 @@ same-lastKind (more s (more h r)) = same-lastKind (more h r)
 
 same-badSmallEngine : {rs ts : List Record} → Pairs SameBytes rs ts → badSmallEngine rs ≡ badSmallEngine ts
 unfolding badSmallEngine
-same-badSmallEngine r =
-    rw (
-      same-any (λ a. eqb (kind a) smallEngineKind) (λ b. eqb (kind b) smallEngineKind) (same-test smallEngineKind) r,
-      same-lastKind r,
-      same-planNumber r,
-    ) refl
+same-badSmallEngine r = rw (same-some smallEngineKind r, same-lastKind r, same-planNumber r) refl
+
+same-badRunIn : {rs ts : List Record} → Pairs SameBytes rs ts → badRunIn rs ≡ badRunIn ts
+unfolding badRunIn
+same-badRunIn r = rw (same-some runInKind r, same-some engineKind r, same-planNumber r) refl
 
 same-badPlan : {rs ts : List Record} (a b : Record) → Pairs SameBytes rs ts → SameBytes a b → badPlan rs a ≡ badPlan ts b
 unfolding badPlan
@@ -172,6 +174,7 @@ module _ (a b : Record) (s : SameBytes a b) where
         same-nonzero a b s 1 2,
         same-nonzero a b s 1 (size w),
         same-nonzero a b s 6 8,
+        same-nonzero a b s 1 4,
       ) refl
 
   pub same-fault : (w : ℕ) {rs ts : List Record} → Pairs SameBytes rs ts → faultOf w rs a ≡ faultOf w ts b
@@ -180,6 +183,7 @@ module _ (a b : Record) (s : SameBytes a b) where
       rw (
         same-misplaced a b r s,
         same-badSmallEngine r,
+        same-badRunIn r,
         same-badPlan a b r s,
         same-declared r,
         same-badMeasurement w _,
@@ -219,16 +223,27 @@ same-before attributes ps n r = refl
 same-before inService ps n r = rw (same-inService ps n r) refl
 same-before corrected ps n r = refl
 
-module _ (plan : Plan) (q : ℕ) where
-  same-look : (n : ℕ) {es fs : List Record} → Pairs SameBytes es fs → (ss : List Standing) → map (look plan q n es) ss ≡ map (look plan q n fs) ss
+-- the first of them, a record of no bytes where there is none
+same-first : {es fs : List Record} → Pairs SameBytes es fs → SameBytes (getD es 0 []) (getD fs 0 [])
+same-first none = record { at = λ i. refl }
+same-first (more s r) = s
+
+same-correction : {vs us es fs : List Record} → Pairs SameBytes vs us → Pairs SameBytes es fs → (p : ℕ) → correction vs es p ≡ correction us fs p
+same-correction none r p = refl
+same-correction {es = es} {fs = fs} (more {x} {y} s v) r p =
+    rw (same-measurement x y s p, same-measurement (getD es 0 []) (getD fs 0 []) (same-first r) p) refl
+
+module _ (plan : Plan) {vs us : List Record} (v : Pairs SameBytes vs us) (q : ℕ) where
+  same-look : (n : ℕ) {es fs : List Record} → Pairs SameBytes es fs → (ss : List Standing) → map (look plan vs q n es) ss ≡ map (look plan us q n fs) ss
   unfolding look
   same-look n r [] = refl
   same-look n {es} {fs} r (s ∷ ss) =
-      let x : Record → ℕ = λ e. measurement e (s .pollutant .number) in
-      let e : map x es ≡ map x fs = same-map x x (λ a b h. same-measurement a b h (s .pollutant .number)) r in
-      rw (e, same-look n r ss) refl
+      let p : ℕ = s .pollutant .number in
+      let x : Record → ℕ = λ e. measurement e p in
+      let e : map x es ≡ map x fs = same-map x x (λ a b h. same-measurement a b h p) r in
+      rw (e, same-correction v r p, same-look n r ss) refl
 
-  same-row : (b : Before) (n : ℕ) {es fs : List Record} → Pairs SameBytes es fs → (ss : List Standing) → rowBy b plan q n es ss ≡ rowBy b plan q n fs ss
+  same-row : (b : Before) (n : ℕ) {es fs : List Record} → Pairs SameBytes es fs → (ss : List Standing) → rowBy b plan vs q n es ss ≡ rowBy b plan us q n fs ss
   same-row early n r ss = refl
   same-row equalCause n r ss = refl
   same-row referral n r ss = refl
@@ -236,19 +251,20 @@ module _ (plan : Plan) (q : ℕ) where
   same-row statistics n r ss = rw (same-look n r ss) refl
 
   module _ (ps : List Pollutant) where
-    same-walk : (n : ℕ) {es fs : List Record} → Pairs SameBytes es fs → (s : Series) → walk plan ps q n es s ≡ walk plan ps q n fs s
+    same-walk : (n : ℕ) {es fs : List Record} → Pairs SameBytes es fs → (s : Series) → walk plan ps vs q n es s ≡ walk plan ps us q n fs s
     same-walk n {es} {fs} r (ongoing ss) = rw (same-before plan ps n r) (same-row (beforeRow plan ps n fs) n r ss)
     same-walk n r (passed m ss) = refl
     same-walk n r (failed m ground ss) = refl
     same-walk n r (referred m ss) = refl
 
-    same-after : {es fs : List Record} → Pairs SameBytes es fs → (n : ℕ) → after plan ps q es n ≡ after plan ps q fs n
+    same-after : {es fs : List Record} → Pairs SameBytes es fs → (n : ℕ) → after plan ps vs q es n ≡ after plan ps us q fs n
     unfolding after
     same-after r zero = refl
-    same-after {es} {fs} r (suc n) = rw (same-after r n) (same-walk (suc n) (pairs-take (suc n) r) (after plan ps q fs n))
+    same-after {es} {fs} r (suc n) = rw (same-after r n) (same-walk (suc n) (pairs-take (suc n) r) (after plan ps us q fs n))
 
 pub same-judgement : (w q : ℕ) {rs ts : List Record} → Pairs SameBytes rs ts → judgeRecords w q rs ≡ judgeRecords w q ts
 unfolding judgeRecords
 same-judgement w q {rs} {ts} r =
     rw (same-stopped r, same-planNumber r, same-declared r, pairs-length (same-ofKind engineKind r))
-    (ap (answer w (stopped ts) (length (engines ts))) (same-after (planOf (planNumber ts)) q (declared ts) (same-ofKind engineKind r) (length (engines ts))))
+    (ap (answer w (stopped ts) (length (engines ts)))
+    (same-after (planOf (planNumber ts)) (same-ofKind runInKind r) q (declared ts) (same-ofKind engineKind r) (length (engines ts))))

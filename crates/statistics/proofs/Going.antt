@@ -9,7 +9,7 @@ use Rattle.rules.specs.Sheet.{Record, size, records, cause, measurement}
 use Rattle.rules.specs.Plans as plans
 use Rattle.rules.specs.Plans.{countOver}
 use Rattle.rules.specs.Series as rules
-use Rattle.accepted.specs.Sheets.{recordAt, pollutantsIn, enginesIn}
+use Rattle.accepted.specs.Sheets.{recordAt, pollutantsIn, runInsIn, enginesIn}
 use Rattle.accepted.proofs.Causes.{hasCause}
 use Rattle.accepted.proofs.Ranges.{InRange, number-in, measurements-in}
 use Rattle.accepted.proofs.Sheets.{clean, engine-is, caused, rows-fit, last-most, inside, few, record-inside}
@@ -17,6 +17,8 @@ use Rattle.columns.proofs.Cut.{Column, is-column, column-start, column-next, pa
 use Rattle.columns.proofs.Gates.{gate-free, gate-most}
 use Rattle.causes.specs.Causes.{looksBy, beforeIn}
 use Rattle.causes.proofs.Emitting.{row-looked}
+use Rattle.corrections.specs.Corrections.{correctionIn}
+use Rattle.corrections.proofs.Correcting.{each-row}
 use Rattle.plan.specs.declared.Plan.{Plan}
 use Rattle.plan.specs.declared.Plan.the-variants.{Attributes}
 use Rattle.plan.specs.Plan.{planIs}
@@ -40,7 +42,11 @@ late n newest some e t = leb-true 3 n (and-true (leb 3 n) _ (sym e ∙ t) .0)
 module _ (w : ℕ) (plan : Plan) (b : List ℕ) (p L t : ℕ) where
   -- what row n says
   abbrev pub says : ℕ → plans.Row
-  says n = plans.row (planIs plan) squarings n L t (measurementsOf w b p n)
+  says n = plans.row (planIs plan) squarings n L t (rules.correction (runInsIn w b) (take n (enginesIn w b)) p) (measurementsOf w b p n)
+
+  -- with the one correction of all rows
+  pub says-by : (n : ℕ) → 1 ≤ n → says n ≡ plans.row (planIs plan) squarings n L t (correctionIn w b p) (measurementsOf w b p n)
+  says-by n h = rw (each-row (runInsIn w b) (enginesIn w b) p n h) refl
 
   pub column-none : columnIs w plan b p L t 0 ≡ rules.isOpen
   column-none = column-start (beforeIn w (planIs plan) b) says
@@ -73,8 +79,8 @@ module _ (w : ℕ) (plan : Plan) (b : List ℕ) (p L t : ℕ) where
   none-tells {n} {rows} h k e = let z : n ≡ rows = omega arith in record { declared = refl; decides = rw (← z) (sym e) }
 
 -- after n rows: the sums, and whether there was a gross emitter
-pub record Sums (w : ℕ) (b : List ℕ) (p L n level sum squares : ℕ) (some : Bool) : Type 0 where
-  pub sums : SumsOf L (measurementsOf w b p n) n sum squares level
+pub record Sums (w : ℕ) (b : List ℕ) (p L n gain level sum squares : ℕ) (some : Bool) : Type 0 where
+  pub sums : SumsOf L (correctionIn w b p) (measurementsOf w b p n) n sum squares gain level
   pub someIs : some ≡ any hasCause (take n (enginesIn w b))
 
 measurement-in : (p : ℕ) (es : List Record) → InRange p es → (i : ℕ) → i < length es → Measured (measurement (getD es i []) p)
@@ -118,8 +124,10 @@ module _ {w : ℕ} {b : List ℕ} {start : ℕ} {plan : Plan} {p L t rows : ℕ}
   counted {n} h =
       length-map (take n (enginesIn w b)) (λ r. measurement r p) ∙ length-take-le n (enginesIn w b) (omega (arith, in-engines))
 
-  pub over-fits : {n over : ℕ} → n ≤ rows → over ≡ countOver L (measurementsOf w b p n) → over ≤ 32
-  over-fits {n} h e = omega (arith, in-engines, counted h, length-those (λ x. ltb L x) (measurementsOf w b p n))
+  pub over-fits : {n over : ℕ} → n ≤ rows → over ≡ countOver L (correctionIn w b p) (measurementsOf w b p n) → over ≤ 32
+  over-fits {n} h e =
+      let c = correctionIn w b p in
+      omega (arith, in-engines, counted h, length-those (λ x. ltb (L * c .first) (x * c .value)) (measurementsOf w b p n))
 
   -- one more engine
   module _ (n : ℕ) (h : n < rows) where
@@ -136,13 +144,13 @@ module _ {w : ℕ} {b : List ℕ} {start : ℕ} {plan : Plan} {p L t rows : ℕ}
     more = rw first (map-append (λ r. measurement r p) (take n (enginesIn w b)) (r ∷ []))
 
     -- plan 3: the engines over the limit
-    pub over-more : {over x : ℕ} → over ≡ countOver L (measurementsOf w b p n) → x ≡ measurement r p
-        → over + boolByte (ltb L x) ≡ countOver L (measurementsOf w b p (n + 1))
-    over-more f e = rw (e, add-one n, more, count-snoc L (measurementsOf w b p n) (measurement r p), f) refl
+    pub over-more : {over x : ℕ} → let c = correctionIn w b p in over ≡ countOver L c (measurementsOf w b p n) → x ≡ measurement r p
+        → over + boolByte (ltb (L * c .first) (x * c .value)) ≡ countOver L c (measurementsOf w b p (n + 1))
+    over-more f e = let c = correctionIn w b p in rw (e, add-one n, more, count-snoc L c (measurementsOf w b p n) (measurement r p), f) refl
 
     -- plans 1, 2, 4 and 5
-    module _ {level sum squares : ℕ} {some : Bool} (f : Sums w b p L n level sum squares some) {x y : ℕ} (xe : x ≡ cause r) (ye : y ≡ g squarings (measurement r p)) where
-      pub sums-more : Sums w b p L (n + 1) level (sum + y) (squares + y * y) (some || not (eqb x 0))
+    module _ {gain level sum squares : ℕ} {some : Bool} (f : Sums w b p L n gain level sum squares some) {x y : ℕ} (xe : x ≡ cause r) (ye : y ≡ g squarings (measurement r p)) where
+      pub sums-more : Sums w b p L (n + 1) gain level (sum + y) (squares + y * y) (some || not (eqb x 0))
       sums-more =
           rw (ye, xe, add-one n)
           (record {
@@ -150,6 +158,7 @@ module _ {w : ℕ} {b : List ℕ} {start : ℕ} {plan : Plan} {p L t rows : ℕ}
               count = sym (counted (omega arith));
               sumIs = rw (more, sum-snoc (measurementsOf w b p n) (measurement r p), f .sums .sumIs) refl;
               squaresIs = rw (more, squares-snoc (measurementsOf w b p n) (measurement r p), f .sums .squaresIs) refl;
+              gainIs = f .sums .gainIs;
               levelIs = f .sums .levelIs;
             };
             someIs = rw (first, any-snoc hasCause (take n (enginesIn w b)) r, f .someIs) refl;
@@ -169,9 +178,11 @@ module _ {w : ℕ} {b : List ℕ} {start : ℕ} {plan : Plan} {p L t rows : ℕ}
 
 -- what row n + 1 of plan 3 makes of a column that is open, where so many engines are over the limit
 pub count-makes : (w : ℕ) (b : List ℕ) (p L t n : ℕ) → 3 ≤ n + 1 → columnIs w Attributes b p L t n ≡ rules.isOpen
-    → {over : ℕ} → over ≡ countOver L (measurementsOf w b p (n + 1)) → {u : plans.Row}
+    → {over : ℕ} → over ≡ countOver L (correctionIn w b p) (measurementsOf w b p (n + 1)) → {u : plans.Row}
     → u ≡ plans.decide (plans.attributesPasses (n + 1) over) (eqb (n + 1) (plans.lastRow plans.attributes)) (plans.attributesFails (n + 1) over)
     → columnIs w Attributes b p L t (n + 1) ≡ rules.decidedAt (n + 1) u
 unfolding rules.beforeRow plans.row plans.rowPasses plans.rowFails
 count-makes w b p L t n h o f e =
-    rw (e, f, add-one n) (column-next (beforeIn w plans.attributes b) (says w Attributes b p L t) n ∙ (rw (o, le-ltb (suc n) 3 (omega arith)) refl))
+    rw (e, f, add-one n)
+    (column-next (beforeIn w plans.attributes b) (says w Attributes b p L t) n
+    ∙ (rw (o, le-ltb (suc n) 3 (omega arith), says-by w Attributes b p L t (suc n) (omega arith)) refl))

@@ -7,6 +7,7 @@ mod count;
 mod fours;
 mod logarithms;
 
+use corrections::correction_of;
 use decisions::Decision;
 use layout::Size;
 use plan::Plan;
@@ -30,6 +31,11 @@ pub fn column(
     requires { ⌜ ColumnRange (widthIs size) (now bytes) start plan number limit deviation rows ⌝ }
     ensures { λ d. ⌜ ColumnIs (widthIs size) plan (now (bytes .entry)) number limit deviation rows d ⌝ }
 {
+    // "Rows are walked from 3."
+    if rows < 3 {
+        return Decision::Open;
+    }
+    let correction = correction_of(size, bytes, start, number);
     // Plan 3 counts the engines over the limit, and the others take logarithms. A table is chosen here, once for a column, and lent whole.
     match plan {
         Plan::KnownDeviation => {
@@ -41,6 +47,7 @@ pub fn column(
                 plan,
                 number,
                 limit,
+                correction,
                 deviation,
                 rows,
                 &table,
@@ -55,12 +62,13 @@ pub fn column(
                 plan,
                 number,
                 limit,
+                correction,
                 deviation,
                 rows,
                 &table,
             )
         }
-        Plan::Attributes => count::column(size, bytes, start, number, limit, rows),
+        Plan::Attributes => count::column(size, bytes, start, number, limit, correction, rows),
         Plan::InService => {
             let table = in_service();
             logarithms::column(
@@ -70,6 +78,7 @@ pub fn column(
                 plan,
                 number,
                 limit,
+                correction,
                 deviation,
                 rows,
                 &table,
@@ -84,6 +93,7 @@ pub fn column(
                 plan,
                 number,
                 limit,
+                correction,
                 deviation,
                 rows,
                 &table,

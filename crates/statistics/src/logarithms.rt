@@ -7,31 +7,35 @@ ghost use Rattle.statistics.specs.Ranges.{RowRange, LogarithmsRange};
 use crate::fours::four_with;
 use crate::fours::put_four;
 use causes::looks;
+use corrections::Correction;
+use corrections::log2_of;
 use decisions::Decision;
 use layout::Size;
 use plan::Plan;
 use record::cause_at;
 use rows::Row;
 
-// What row n of the plan says by the sums; level is the limit's logarithm, and `table` is the plan's, lent.
-// W is n × squares − sum × sum: it does not change where every logarithm is moved by the limit's.
+// What row n of the plan says by the sums, where each d_j is a measurement's logarithm + gain − level; `table` is the plan's, lent.
+// W is n × squares − sum × sum: it stays where every logarithm is moved by the same (rows/proofs/Sums.antt:W-same).
 fn row(
     plan: Plan,
     n: u64,
     sum: u64,
     squares: u64,
+    gain: u64,
     level: u64,
     deviation: u64,
     table: &[[i32; 2]],
 ) -> Row
-    requires { ⌜ RowRange plan n sum squares level deviation ⌝ }
+    requires { ⌜ RowRange plan n sum squares gain level deviation ⌝ }
     requires { ⌜ Lent (planIs plan) (now table) ⌝ }
-    ensures { λ r. ⌜ RowFrom plan n sum squares level deviation r ⌝ }
+    ensures { λ r. ⌜ RowFrom plan n sum squares gain level deviation r ⌝ }
 {
+    let added = sum + n * gain;
     if let Plan::KnownDeviation = plan {
-        rows::known_row(n, table, sum, level, deviation)
+        rows::known_row(n, table, added, level, deviation)
     } else {
-        rows::root_row(plan, n, table, sum, n * level, n * squares - sum * sum)
+        rows::root_row(plan, n, table, added, n * level, n * squares - sum * sum)
     }
 }
 
@@ -43,20 +47,19 @@ pub(crate) fn column(
     plan: Plan,
     number: u32,
     limit: u32,
+    correction: Correction,
     deviation: u32,
     rows: usize,
     table: &[[i32; 2]],
 ) -> Decision
-    requires { ⌜ LogarithmsRange (widthIs size) (now bytes) start plan number limit deviation rows ⌝ }
+    requires { ⌜ LogarithmsRange (widthIs size) (now bytes) start plan number limit correction deviation rows ⌝ }
     requires { ⌜ Lent (planIs plan) (now table) ⌝ }
     ensures { λ d. ⌜ ColumnIs (widthIs size) plan (now (bytes .entry)) number limit deviation rows d ⌝ }
 {
-    if rows < 3 {
-        return Decision::Open;
-    }
     let mut logs = [0u32; 4];
     put_four(&mut logs, limit, size, bytes, start, number, rows, 0);
-    let level = logs[0] as u64;
+    let gain = log2_of(correction.value) as u64;
+    let level = logs[0] as u64 + log2_of(correction.first) as u64;
     let mut sum: u64 = 0;
     let mut squares: u64 = 0;
     let mut any = false;
@@ -70,7 +73,16 @@ pub(crate) fn column(
         squares = squares + y * y;
         any = any | newest;
         if looks(n as u64, newest, any) {
-            let row = row(plan, n as u64, sum, squares, level, deviation as u64, table);
+            let row = row(
+                plan,
+                n as u64,
+                sum,
+                squares,
+                gain,
+                level,
+                deviation as u64,
+                table,
+            );
             match row {
                 Row::Open => {}
                 Row::Pass => {

@@ -3,8 +3,8 @@ use Prim.Native.Nat.{ℕ, _+_, _≤_, _<_}
 use mathlib.Core.Bool.{Bool, _||_, cond}
 use lib.Dec.{eqb}
 use Rattle.rules.specs.Logarithm.{greatest}
-use Rattle.rules.specs.Sheet.{Record, pollutantKind, engineKind, stopKind, smallEngineKind, kind, number, plan, limit}
-use Rattle.rules.specs.Plans.{planOf, lastRow}
+use Rattle.rules.specs.Sheet.{Record, pollutantKind, engineKind, stopKind, smallEngineKind, runInKind, kind, number, plan, limit}
+use Rattle.rules.specs.Plans.{inService, numberOf, planOf, lastRow}
 use Rattle.record.specs.declared.Quantities.{Quantities}
 use Rattle.record.specs.Quantities.{quantitiesWith}
 use Rattle.summary.specs.declared.Summary.{Summary}
@@ -33,7 +33,7 @@ summaryWith s r =
       number = cond (eqb (kind r) pollutantKind) (number r) (s .number);
       limits = cond (eqb (kind r) pollutantKind) (quantitiesWith (s .limits) (number r) (limit r)) (s .limits);
       pollutants = cond (eqb (kind r) pollutantKind) (s .pollutants + 1) (s .pollutants);
-      head = cond (eqb (kind r) pollutantKind || eqb (kind r) smallEngineKind) (s .head + 1) (s .head);
+      head = cond (eqb (kind r) pollutantKind || (eqb (kind r) smallEngineKind || eqb (kind r) runInKind)) (s .head + 1) (s .head);
       engines = cond (eqb (kind r) engineKind) (s .engines + 1) (s .engines);
     }
 
@@ -41,7 +41,11 @@ summaryWith s r =
 abbrev pub misplacesOthers : Summary → Bool
 misplacesOthers s = eqb (s .kind) 0 || eqb (s .kind) stopKind
 
--- what a summary must leave room for, so that another record is read: the counts of a sheet are at most 40
+-- 19, of run-in values: they would stand behind others or behind an engine, or in plan 4
+abbrev pub misplacesRunIn : Summary → Bool
+misplacesRunIn s = eqb (s .kind) runInKind || eqb (s .kind) engineKind || eqb (s .plan) (numberOf inService)
+
+-- what a summary must leave room for, so that another record is read: the counts of a sheet are at most 41
 pub record Room (s : Summary) : Type 0 where
   pub pollutants : s .pollutants < 1000
   pub head : s .head < 1000

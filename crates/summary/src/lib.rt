@@ -1,10 +1,11 @@
 // What the records before one say.
 ghost use mathlib.Core.Path.{_≡_};
-ghost use Rattle.summary.specs.State.{nothing, summaryWith, misplacesOthers, Room};
+ghost use Rattle.summary.specs.State.{nothing, summaryWith, misplacesOthers, misplacesRunIn, Room};
 use plan::Plan;
 use record::ENGINE;
 use record::POLLUTANT;
 use record::Quantities;
+use record::RUN_IN;
 use record::SMALL_ENGINE;
 use record::STOP;
 use record::kind_of;
@@ -26,7 +27,7 @@ pub struct Summary {
     pub limits: Quantities,
     // How many pollutants are declared.
     pub pollutants: u32,
-    // How many records stand before the first engine: the pollutants, and a small engine if there is one.
+    // How many records stand before the first engine: the pollutants, and a small engine and run-in values if there are any.
     pub head: u32,
     // How many engines there are.
     pub engines: u32,
@@ -58,7 +59,7 @@ impl Summary {
     }
 
     // What is said once the record r, which has no fault, is read too.
-    // For `checking` alone, whose loop reads at most 40 records after at most 40, so that no count overflows: so it may require.
+    // For `checking` alone, whose loop reads at most 41 records after at most 41, so that no count overflows: so it may require.
     pub fn with(mut self, r: &[u8]) -> Summary
         requires { ⌜ Room self ⌝ }
         ensures { λ t. ⌜ t ≡ summaryWith self (now (r .entry)) ⌝ }
@@ -77,7 +78,7 @@ impl Summary {
             self.last_row = Plan::of(plan).last_row();
             self.number = number;
             self.limits = limits.with(number, limit_of(r));
-        } else if kind == SMALL_ENGINE {
+        } else if (kind == SMALL_ENGINE) | (kind == RUN_IN) {
             self.head = self.head + 1;
         }
         self
@@ -88,5 +89,13 @@ impl Summary {
         ensures { λ b. ⌜ b ≡ misplacesOthers self ⌝ }
     {
         (self.kind == 0) | (self.kind == STOP)
+    }
+
+    // 02, F-2: "19, a second kind 6, one after an engine or in plan 4". Behind either kind come engines and a stop alone, and behind a stop
+    // nothing: so the last record tells.
+    pub fn misplaces_run_in(self) -> bool
+        ensures { λ b. ⌜ b ≡ misplacesRunIn self ⌝ }
+    {
+        (self.kind == RUN_IN) | (self.kind == ENGINE) | (self.plan == Plan::IN_SERVICE)
     }
 }

@@ -6,7 +6,7 @@ use Rattle.rules.specs.Sheet.{Pollutant, morePollutants, numbers, pollutant, de
 use Rattle.rules.specs.Plans.{planOf}
 use Rattle.rules.specs.Series as rules
 use Rattle.rules.specs.Refusals.{greatestDeviation}
-use Rattle.accepted.specs.Sheets.{recordAt, pollutantsIn, enginesIn, AcceptedSheet}
+use Rattle.accepted.specs.Sheets.{recordAt, pollutantsIn, runInsIn, enginesIn, AcceptedSheet}
 use Rattle.accepted.proofs.ByNumber.{InOrder}
 use Rattle.accepted.proofs.Sheets.{order, declared-first, pollutant-is}
 use Rattle.layout.specs.declared.Size.{Size}
@@ -49,7 +49,7 @@ order-at w m (p ∷ ps) d o (suc k) l =
     record { declared = rw (r .declared) (or-true (eqb (p .number) (getD ps k d .number))); limited = r .limited; deviating = r .deviating }
 
 abbrev pub columnsOf : (w : ℕ) → Plan → List ℕ → Pollutant → ℕ → rules.Decision
-columnsOf w plan b = columnOf (planIs plan) (pollutantsIn w b) squarings (enginesIn w b)
+columnsOf w plan b = columnOf (planIs plan) (pollutantsIn w b) (runInsIn w b) squarings (enginesIn w b)
 
 -- an accepted sheet, its plan and its gate
 pub record Opened (z : Size) (b : List ℕ) (s : Summary) (plan : Plan) (g : Gate) : Type 0 where
@@ -77,7 +77,7 @@ module _ {z : Size} {b : List ℕ} {s : Summary} {plan : Plan} {g : Gate} (o : O
   pollutants-first = rw (laws.pollutants-are (o .valid)) (declared-first sheet)
 
   each : (p : Pollutant) → Column (columnsOf (widthIs z) plan b p)
-  each p = is-column (beforeIn (widthIs z) (planIs plan) b) (rowOf (planIs plan) squarings (enginesIn (widthIs z) b) p)
+  each p = is-column (beforeIn (widthIs z) (planIs plan) b) (rowOf (planIs plan) (runInsIn (widthIs z) b) squarings (enginesIn (widthIs z) b) p)
 
   pub kept-none : {rows : ℕ} {ds : Decisions} → rows ≡ rowsOf (gateIs g) → ds ≡ noDecisions
       → Kept z b (s .pollutants) plan g 0 (record { rows = rows; latest = 0; failed = false; waits = false; decisions = ds })

@@ -2,12 +2,12 @@
 use Rattle.arithmetic.proofs.Basics.{ℕ, zero, suc, _+_, _*_, add-one, mul-zero, mul-suc, arith, _≡_, refl, _∙_, Bool, false, not, _||_, eqb, take, drop, ne-eqb, or-same}
 use Rattle.arithmetic.proofs.Basics.{or-assoc, any-part}
 use Rattle.rules.specs.Tools.{any, byte, four}
-use Rattle.rules.specs.Sheet.{Record, pollutantKind, engineKind, stopKind, smallEngineKind, kind}
+use Rattle.rules.specs.Sheet.{Record, pollutantKind, engineKind, stopKind, smallEngineKind, runInKind, kind}
 use Rattle.rules.specs.Refusals.{nonzero, unused}
 use Rattle.layout.specs.declared.Size.{Size}
 use Rattle.layout.specs.declared.Size.the-variants.{Twenty, TwentyEight}
 use Rattle.layout.specs.Sizes.{widthIs}
-use Rattle.zeros.specs.Zeros.{unusedFromTwelve, pollutantUnused, engineUnused, stopUnused, smallEngineUnused}
+use Rattle.zeros.specs.Zeros.{unusedFromTwelve, pollutantUnused, engineUnused, stopUnused, smallEngineUnused, runInUnused}
 
 -- a number x below the byte y: one number, zero exactly if both are
 joined : (c x y : ℕ) → not (eqb (x + suc c * y) 0) ≡ not (eqb x 0) || not (eqb y 0)
@@ -52,3 +52,7 @@ module _ (r : Record) where
   small-engine-unused Twenty k = rw (k, one-by-one 1 1, one-by-one 2 6, one-by-one 8 12, word 12 4, word 16 0) (simp (joined 255, or-same, or-assoc))
   small-engine-unused TwentyEight k =
       rw (k, one-by-one 1 1, one-by-one 2 6, one-by-one 16 12, word 12 12, word 16 8, word 20 4, word 24 0) (simp (joined 255, or-same, or-assoc))
+
+  pub run-in-unused : (w : ℕ) → kind r ≡ runInKind → runInUnused r ≡ unused w r
+  unfolding unused nonzero
+  run-in-unused w k = rw (k, one-by-one 3 1) (simp (joined 255, or-same, or-assoc))

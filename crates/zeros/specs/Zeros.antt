@@ -31,3 +31,7 @@ stopUnused r rest =
 
 abbrev pub smallEngineUnused : Record → (rest : Bool) → Bool
 smallEngineUnused r rest = not (eqb (byte r 1) 0) || not (eqb (two r 6) 0) || rest
+
+-- of run-in values: bytes 1 to 3, the second and third of which an engine has its cause in
+abbrev pub runInUnused : Record → Bool
+runInUnused r = not (eqb (byte r 1) 0) || not (eqb (two r 2) 0)

@@ -1,4 +1,4 @@
-// "12, another byte that must be zero". Every kind but an engine has zeros from byte 12 on: whether one of them is not zero is asked once, and is the `rest` of what a kind asks.
+// "12, another byte that must be zero". Every kind without measurements has zeros from byte 12 on: whether one of them is not zero is asked once, and is the `rest` of what a kind asks.
 ghost use mathlib.Core.Path.{_≡_};
 ghost use Rattle.zeros.specs.Zeros.{unusedBehind, unusedFromTwelve, pollutantUnused, stopUnused, smallEngineUnused};
 use layout::Size;

@@ -1,9 +1,9 @@
 //! The calls to compare: report and append on one sheet, with lent memory of ordinary and of
 //! awkward lengths, and with sizes of a record that are none.
 
-use crate::draft::{random_draft, stop_record, SMALL};
+use crate::draft::{random_draft, run_in_record, stop_record, RUN_IN, SMALL};
 use crate::memory::{Edge, Lender};
-use crate::paper::{Report, Reported};
+use crate::paper::{measured_alone, Report, Reported};
 use crate::tally::hexadecimal;
 use random::Random;
 use second::{append, report, Document, Document01, Refusal};
@@ -316,22 +316,25 @@ fn used_lengths(size: usize, sheet: usize) -> [usize; 11] {
     ]
 }
 
-/// A record to append: one that is on the sheet, a small engine, a stop, or no record by its length.
+/// A record to append: one that is on the sheet, a small engine, run-in values of pollutant 1 or
+/// those that are the last record's measurements, a stop, or no record by its length.
 #[derive(Clone, Copy)]
 enum Added {
     First,
     Last,
     SmallEngine,
+    RunIn,
+    RunInOfLast,
     Stop(usize),
     Zeros(usize),
 }
 
 fn records(size: usize, sheet: &[u8]) -> Vec<Added> {
     let mut records: Vec<Added> = [0, 19, 21, 27, 29].map(Added::Zeros).into();
-    records.extend([Added::Zeros(size), Added::SmallEngine]);
+    records.extend([Added::Zeros(size), Added::SmallEngine, Added::RunIn]);
     records.extend(SIZES.map(Added::Stop));
     if sheet.len() >= size {
-        records.extend([Added::First, Added::Last]);
+        records.extend([Added::First, Added::Last, Added::RunInOfLast]);
     }
     records
 }
@@ -342,6 +345,12 @@ impl Added {
             Added::First => sheet[..size].to_vec(),
             Added::Last => sheet[sheet.len() - size..].to_vec(),
             Added::SmallEngine => SMALL.record(size),
+            Added::RunIn => run_in_record(size, &measured_alone(1, 150)),
+            Added::RunInOfLast => {
+                let mut record = Added::Last.bytes(size, sheet);
+                record[..4].copy_from_slice(&[RUN_IN, 0, 0, 0]);
+                record
+            }
             Added::Stop(size) => stop_record(size),
             Added::Zeros(length) => vec![0; length],
         }

@@ -1,26 +1,39 @@
-//! By which clause of document 02's request F-1 a sheet was refused, as far as its other clauses
-//! would not have refused it too; and by which it was accepted.
+//! By which clause of document 02's requests F-1 and F-2 a sheet was refused, as far as their other
+//! clauses would not have refused it too; and by which it was accepted.
 
-use crate::draft::SmallEngine;
-use crate::draft::{ENGINE, PARTICULATES, POLLUTANT, SMALL_ENGINE, STOP};
+use crate::draft::{SmallEngine, LARGEST};
+use crate::draft::{ENGINE, PARTICULATES, POLLUTANT, RUN_IN, SMALL_ENGINE, STOP};
 use second::{Document, Document01};
 
 /// A refusal's number, and what led to it.
 pub type Clause = (u8, &'static str);
 
 /// Those that have to be seen.
-pub const CLAUSES: [Clause; 11] = [
+pub const CLAUSES: [Clause; 24] = [
     (3, "a small engine first"),
     (3, "a small engine after a stop"),
     (3, "a pollutant after a small engine"),
+    (3, "run-in values first"),
+    (3, "run-in values after a stop"),
+    (3, "a pollutant after run-in values"),
+    (8, "run-in value 0"),
+    (8, "run-in value over 9,999,999"),
+    (8, "run-in value of an undeclared pollutant"),
+    (12, "byte 1 of run-in values"),
+    (12, "byte 2 of run-in values"),
+    (12, "byte 3 of run-in values"),
     (16, "after a small engine"),
     (16, "after an engine"),
+    (16, "after run-in values"),
     (16, "in plan 4"),
     (18, "250, for the volume alone"),
     (18, "250, for the speed alone"),
     (18, "250, for the date alone"),
     (18, "150 where 250 is the rule's"),
     (18, "a limit of no rule"),
+    (19, "after run-in values"),
+    (19, "after an engine"),
+    (19, "in plan 4"),
 ];
 
 /// A sheet of whole records, and the one that was refused.
@@ -35,7 +48,9 @@ impl Refused<'_> {
     pub fn clause(&self) -> Option<Clause> {
         let name = match self.number {
             3 => self.misplaced(),
-            16 => self.elsewhere(),
+            8 if self.kind(self.at) == RUN_IN => self.value_that_does_not_fit(),
+            12 if self.kind(self.at) == RUN_IN => self.byte_not_zero(),
+            16 | 19 => self.elsewhere(),
             18 => self.not_the_rules(),
             _ => None,
         };
@@ -55,23 +70,68 @@ impl Refused<'_> {
             (None, SMALL_ENGINE) => Some("a small engine first"),
             (Some(STOP), SMALL_ENGINE) => Some("a small engine after a stop"),
             (Some(SMALL_ENGINE), POLLUTANT) => Some("a pollutant after a small engine"),
+            (None, RUN_IN) => Some("run-in values first"),
+            (Some(STOP), RUN_IN) => Some("run-in values after a stop"),
+            (Some(RUN_IN), POLLUTANT) => Some("a pollutant after run-in values"),
             _ => None,
         }
     }
 
+    /// Of kinds 5 and 6.
     fn elsewhere(&self) -> Option<&'static str> {
         let plan = self.sheet[2];
+        let second_small_engine = self.number == 16 && self.has_before(SMALL_ENGINE);
+        let engines_alone = !self.has_before(SMALL_ENGINE) && !self.has_before(RUN_IN);
         match (self.kind_before(), plan) {
             (Some(POLLUTANT), 4) => Some("in plan 4"),
             (_, 4) => None,
             (Some(SMALL_ENGINE), _) => Some("after a small engine"),
-            (Some(ENGINE), _) => Some("after an engine"),
+            (Some(RUN_IN), _) if !second_small_engine => Some("after run-in values"),
+            (Some(ENGINE), _) if engines_alone => Some("after an engine"),
+            _ => None,
+        }
+    }
+
+    fn has_before(&self, kind: u8) -> bool {
+        (0..self.at).any(|at| self.kind(at) == kind)
+    }
+
+    fn record(&self) -> &[u8] {
+        &self.sheet[self.at * self.size..][..self.size]
+    }
+
+    /// The only one of the record.
+    fn value_that_does_not_fit(&self) -> Option<&'static str> {
+        let declared = |pollutant| {
+            let mut records = self.sheet.chunks_exact(self.size).take(self.at);
+            records.any(|record| record[..2] == [POLLUTANT, pollutant as u8 + 1])
+        };
+        let values = (0..Document01.pollutants(self.size)).map(|pollutant| {
+            let value = Document01.measurement(self.record(), pollutant);
+            match (declared(pollutant), value) {
+                (true, 0) => Some("run-in value 0"),
+                (true, 10_000_000..) => Some("run-in value over 9,999,999"),
+                (false, 1..) => Some("run-in value of an undeclared pollutant"),
+                _ => None,
+            }
+        });
+        match values.flatten().collect::<Vec<_>>()[..] {
+            [name] => Some(name),
+            _ => None,
+        }
+    }
+
+    fn byte_not_zero(&self) -> Option<&'static str> {
+        match self.record()[1..4] {
+            [_, 0, 0] => Some("byte 1 of run-in values"),
+            [0, _, 0] => Some("byte 2 of run-in values"),
+            [0, 0, _] => Some("byte 3 of run-in values"),
             _ => None,
         }
     }
 
     fn not_the_rules(&self) -> Option<&'static str> {
-        let small_engine = small_engine(&self.sheet[self.at * self.size..]);
+        let small_engine = small_engine(self.record());
         let met = [
             small_engine.volume < 700,
             small_engine.speed > 3000,
@@ -89,7 +149,7 @@ impl Refused<'_> {
 
     /// 17 for the day behind a month's last.
     pub fn day_after_last(&self) -> Option<[u32; 2]> {
-        let date = small_engine(&self.sheet[self.at * self.size..]).date;
+        let date = small_engine(self.record()).date;
         let behind = self.number == 17 && date > 0 && Document01.date_fits(date - 1);
         behind.then_some([date / 100 % 100, date % 100])
     }
@@ -106,7 +166,7 @@ pub struct Accepted {
 
 impl Accepted {
     pub fn new(size: usize, sheet: &[u8]) -> Option<Self> {
-        let date = small_engine(first_small_engine(size, sheet)?).date;
+        let date = small_engine(first_of(SMALL_ENGINE, size, sheet)?).date;
         let last = !Document01.date_fits(date + 1);
         Some(Accepted {
             plan: sheet[2],
@@ -122,14 +182,43 @@ pub fn last_days() -> impl Iterator<Item = [u32; 2]> {
     of_year(1999).chain([[2, 29]])
 }
 
-fn first_small_engine(size: usize, sheet: &[u8]) -> Option<&[u8]> {
+fn first_of(kind: u8, size: usize, sheet: &[u8]) -> Option<&[u8]> {
     let mut records = sheet.chunks_exact(size);
-    records.find(|record| record[0] == SMALL_ENGINE)
+    records.find(|record| record[0] == kind)
 }
 
-pub fn has_small_engine(size: usize, sheet: &[u8]) -> bool {
-    first_small_engine(size, sheet).is_some()
+pub fn has(kind: u8, size: usize, sheet: &[u8]) -> bool {
+    first_of(kind, size, sheet).is_some()
 }
+
+/// The places of an accepted run-in sheet that have an end of the range: of its limits, its values,
+/// and what its first two engines measured.
+pub fn run_in_ends(size: usize, sheet: &[u8]) -> Vec<(&'static str, u32)> {
+    let Some(values) = first_of(RUN_IN, size, sheet) else {
+        return Vec::new();
+    };
+    let engines = sheet
+        .chunks_exact(size)
+        .filter(|record| record[0] == ENGINE);
+    let measured = ["x_1", "x_2"].into_iter().zip(engines);
+    let mut ends = Vec::new();
+    for (name, record) in [("the value", values)].into_iter().chain(measured) {
+        let numbers = (0..Document01.pollutants(size)).map(|p| Document01.measurement(record, p));
+        ends.extend(numbers.map(|number| (name, number)));
+    }
+    let pollutants = sheet
+        .chunks_exact(size)
+        .filter(|record| record[0] == POLLUTANT);
+    ends.extend(pollutants.map(|record| ("the limit", Document01.limit(record))));
+    ends.retain(|(_, number)| ENDS.contains(number));
+    ends
+}
+
+/// The ends of the range of limits and measurements.
+pub const ENDS: [u32; 2] = [1, LARGEST];
+
+/// Where `run_in_ends` looks for them.
+pub const PLACES_OF_ENDS: [&str; 4] = ["the limit", "the value", "x_1", "x_2"];
 
 fn small_engine(record: &[u8]) -> SmallEngine {
     SmallEngine {

@@ -1,16 +1,18 @@
 //! The sheets that every suite goes through, in records of one size: the directed sheets of small
-//! engines, pairs on a line and series exact to a unit of W, both chosen by the paper, the directed
-//! sheets of plans 3, 4 and 5, some of all these with a small engine put in, damaged sheets for every
-//! refusal, the longest sheets, sheets of the other size, and random ones.
+//! engines and of run-in values, pairs on a line and series exact to a unit of W, on run-in sheets
+//! too and all chosen by the paper, the directed sheets of plans 3, 4 and 5, some of all these with
+//! a small engine or run-in values put in, damaged sheets for every refusal, the longest sheets,
+//! sheets of the other size, and random ones.
 
 use crate::attributes;
 use crate::corrected;
 use crate::draft::{full_draft, numbers, random_draft, random_draft_under, random_small_engine};
-use crate::draft::{stop_record, Draft, ENGINE, POLLUTANT, SMALL_ENGINE, STOP};
+use crate::draft::{stop_record, Draft, ENGINE, POLLUTANT, RUN_IN, SMALL_ENGINE, STOP};
 use crate::exact::{self, Stand};
-use crate::pairs::{self, Pair};
+use crate::pairs::{self, Pair, Search};
 use crate::paper::{Cell, Chosen, Paper, Single};
 use crate::refusals::{unused_bytes, Sheet, Way, WAYS};
+use crate::run_in;
 use crate::service;
 use crate::small_engines;
 use random::Random;
@@ -25,8 +27,9 @@ pub struct Scale {
     /// Whether series exact to a unit of W are looked for.
     pub exact: bool,
     pub rounds_of_damage: usize,
-    /// One of so many of the longest sheets that are damaged, of the sheets damaged twice and of plan
-    /// 4's directed ones.
+    /// One of so many of the longest sheets that are damaged, of the sheets damaged twice and of the
+    /// directed ones of run-in values and of plan 4. Odd, so that of sheets that differ in four or in
+    /// eight ways by turns each is taken.
     pub one_directed_in: usize,
     pub random_sheets: usize,
     pub promises: usize,
@@ -46,7 +49,7 @@ pub const QUICK: Scale = Scale {
     pairs_in_cell: 1,
     exact: false,
     rounds_of_damage: 4,
-    one_directed_in: 16,
+    one_directed_in: 15,
     random_sheets: 1_000,
     promises: 200,
 };
@@ -55,6 +58,7 @@ pub const QUICK: Scale = Scale {
 #[derive(Clone, Copy)]
 pub enum Origin {
     SmallEngine,
+    RunIn,
     Pair(Cell),
     Exact(Cell, Stand),
     Attributes,
@@ -74,6 +78,7 @@ impl fmt::Display for Origin {
     fn fmt(&self, formatter: &mut fmt::Formatter) -> fmt::Result {
         match *self {
             Origin::SmallEngine => write!(formatter, "directed sheet of a small engine"),
+            Origin::RunIn => write!(formatter, "directed sheet of run-in values"),
             Origin::Pair(Cell { plan, row, line }) => {
                 write!(formatter, "line pair, plan {plan}, row {row}, {line:?}")
             }
@@ -86,7 +91,7 @@ impl fmt::Display for Origin {
             Origin::Attributes => write!(formatter, "directed sheet of plan 3"),
             Origin::InService => write!(formatter, "directed sheet of plan 4"),
             Origin::Corrected => write!(formatter, "directed sheet of plans 2 and 5"),
-            Origin::PutIn => write!(formatter, "sheet with a small engine put in"),
+            Origin::PutIn => write!(formatter, "sheet with a record put in"),
             Origin::Damage(way) => {
                 write!(
                     formatter,
@@ -107,11 +112,20 @@ impl fmt::Display for Origin {
     }
 }
 
+/// Series that are exact to a unit of W.
+pub struct Exact {
+    pub cell: Cell,
+    pub stand: Stand,
+    pub series: Vec<Single>,
+    /// Under the plans that have run-in values, a twin of each.
+    pub run_in_twins: Vec<Single>,
+}
+
 /// The series that stand on a line, before they are put on sheets.
 pub struct LineSeries {
     pub paper: Paper,
     pub pairs: Vec<Pair>,
-    pub exact: Vec<(Cell, Stand, Vec<Single>)>,
+    pub exact: Vec<Exact>,
 }
 
 impl LineSeries {
@@ -121,8 +135,10 @@ impl LineSeries {
         let mut pairs = Vec::new();
         let mut exact = Vec::new();
         for cell in paper.cells() {
-            let count = scale.pairs_in_cell;
-            pairs.extend(pairs::pairs(&paper, cell, count, &mut random));
+            for search in Search::all_in(cell) {
+                let count = scale.pairs_in_cell;
+                pairs.extend(pairs::pairs(&paper, search, count, &mut random));
+            }
             if scale.exact && UNKNOWN_DEVIATION.contains(&cell.plan) {
                 exact.extend(exact_series(&paper, cell, &mut random));
             }
@@ -139,7 +155,7 @@ impl LineSeries {
 pub const EXACT_IN_CELL: usize = 4;
 
 /// Some on each side of the line, and one on the line, as far as they are found.
-fn exact_series(paper: &Paper, cell: Cell, random: &mut Random) -> [(Cell, Stand, Vec<Single>); 3] {
+fn exact_series(paper: &Paper, cell: Cell, random: &mut Random) -> [Exact; 3] {
     let stands = [
         (Stand::Deciding, EXACT_IN_CELL),
         (Stand::Beyond, EXACT_IN_CELL),
@@ -147,18 +163,27 @@ fn exact_series(paper: &Paper, cell: Cell, random: &mut Random) -> [(Cell, Stand
     ];
     stands.map(|(stand, count)| {
         let found = (0..count).filter_map(|_| exact::series(paper, cell, stand, random));
-        (cell, stand, found.collect())
+        let series: Vec<Single> = found.collect();
+        let of_production = series.iter().filter(|_| cell.plan != 4);
+        let twins = of_production.filter_map(|series| exact::run_in_twin(series, random));
+        Exact {
+            cell,
+            stand,
+            run_in_twins: twins.collect(),
+            series,
+        }
     })
 }
 
-/// Of so many sheets of pairs, one also has a small engine put in; odd, so that it is by turns the
-/// one and the other of a pair.
+/// Of so many sheets of pairs, one also has a record put in; odd, so that it is by turns the one
+/// and the other of a pair.
 const ONE_PUT_IN: usize = 5;
 
 pub struct Corpus {
     /// Of the records.
     pub size: usize,
     small_engines: Vec<Chosen>,
+    run_in: Vec<Chosen>,
     pub pairs: Vec<(Cell, [Chosen; 2])>,
     exact: Vec<(Cell, Stand, Chosen)>,
     attributes: Vec<Chosen>,
@@ -180,11 +205,16 @@ impl Corpus {
         let corrected = corrected::sheets(size);
         let of_pairs = pairs.iter().flat_map(|(_, sheets)| sheets);
         let some_of_pairs = of_pairs.step_by(ONE_PUT_IN);
-        let put_in =
-            small_engines::put_in(size, some_of_pairs.chain(&attributes).chain(&corrected));
+        let some = some_of_pairs.chain(&attributes).chain(&corrected);
+        let mut put_in = small_engines::put_in(size, some.clone());
+        put_in.extend(run_in::put_in(size, some));
         Corpus {
             size,
             small_engines: small_engines::sheets(size),
+            run_in: run_in::sheets(paper, size)
+                .into_iter()
+                .step_by(scale.one_directed_in)
+                .collect(),
             pairs,
             exact: exact_sheets(paper, exact, size),
             attributes,
@@ -202,6 +232,7 @@ impl Corpus {
         let exact = self.exact.iter();
         let exact = exact.map(|(cell, stand, chosen)| (Origin::Exact(*cell, *stand), chosen));
         labelled(Origin::SmallEngine, &self.small_engines)
+            .chain(labelled(Origin::RunIn, &self.run_in))
             .chain(pairs)
             .chain(exact)
             .chain(labelled(Origin::Attributes, &self.attributes))
@@ -232,23 +263,22 @@ impl Corpus {
 fn pair_sheets(paper: &Paper, pairs: &[Pair], size: usize) -> Vec<(Cell, [Chosen; 2])> {
     let by_turns = pairs.iter().zip(numbers(size).cycle());
     by_turns
-        .map(|(Pair { cell, series }, number)| {
+        .map(|(pair, number)| {
             let chosen = |series| paper.chosen(series, size, number);
-            (*cell, series.each_ref().map(chosen))
+            (pair.search.cell, pair.series.each_ref().map(chosen))
         })
         .collect()
 }
 
-/// For each pollutant one of the series that stand so.
-fn exact_sheets(
-    paper: &Paper,
-    exact: &[(Cell, Stand, Vec<Single>)],
-    size: usize,
-) -> Vec<(Cell, Stand, Chosen)> {
+/// For each pollutant one of the series that stand so, and one of their twins.
+fn exact_sheets(paper: &Paper, exact: &[Exact], size: usize) -> Vec<(Cell, Stand, Chosen)> {
     let mut sheets = Vec::new();
-    for (cell, stand, series) in exact {
-        for (series, number) in series.iter().cycle().zip(numbers(size)) {
-            sheets.push((*cell, *stand, paper.chosen(series, size, number)));
+    for exact in exact {
+        for series in [&exact.series, &exact.run_in_twins] {
+            for (series, number) in series.iter().cycle().zip(numbers(size)) {
+                let chosen = paper.chosen(series, size, number);
+                sheets.push((exact.cell, exact.stand, chosen));
+            }
         }
     }
     sheets
@@ -336,41 +366,45 @@ fn accepted_sheet(size: usize, plan: u8, random: &mut Random) -> Sheet {
 /// The plans of the longest sheets, whose last row is 32.
 const UP_TO_32: [u8; 3] = [1, 2, 5];
 
-/// Whole, without its stop, without its small engine, and with the first four pollutants alone: the
-/// longest that can be narrowed. Then one of as many records that is refused for a record: a second
-/// stop in place of the small engine.
-fn longest_sheets(longest: &Draft) -> [Vec<u8>; 5] {
+/// Whole, without its stop, and with the first four pollutants alone: the longest that can be
+/// narrowed. Then without its small engine and without its run-in values, and of each one of as
+/// many records as the longest that is refused for a record: with a second stop instead.
+fn longest_sheets(longest: &Draft) -> Vec<Vec<u8>> {
     let mut without_stop = longest.clone();
     without_stop.stopped = false;
     let mut of_four = longest.clone();
     of_four.pollutants.truncate(4);
-    for engine in &mut of_four.engines {
-        engine.measurements[4..].fill(0);
+    let engines = of_four.engines.iter_mut().map(|one| &mut one.measurements);
+    for measurements in engines.chain(&mut of_four.run_in) {
+        measurements[4..].fill(0);
     }
-    let without_small_engine = without_small_engine(longest).bytes();
-    let two_stops = [&without_small_engine[..], &stop_record(longest.size)].concat();
-    [
-        longest.bytes(),
-        without_stop.bytes(),
-        without_small_engine,
-        of_four.bytes(),
-        two_stops,
-    ]
+    let mut sheets = vec![longest.bytes(), without_stop.bytes(), of_four.bytes()];
+    for without in without_one(longest) {
+        let stop = stop_record(longest.size);
+        sheets.push(without.bytes());
+        sheets.push([without.bytes(), stop].concat());
+    }
+    sheets
 }
 
-fn without_small_engine(longest: &Draft) -> Draft {
-    let mut without = longest.clone();
-    without.small_engine = None;
-    without
+/// Without the small engine, and without the run-in values.
+fn without_one(longest: &Draft) -> [Draft; 2] {
+    let mut without_small_engine = longest.clone();
+    without_small_engine.small_engine = None;
+    let mut without_run_in = longest.clone();
+    without_run_in.run_in = None;
+    [without_small_engine, without_run_in]
 }
 
-/// With each damage that keeps the length; and without the small engine, with each that brings it
-/// back to that length. F-1: "A sheet may hold 38 records", with or without kind 5, so that a record
-/// is refused, and not the length.
+/// With each damage that keeps the length; and without the small engine or the run-in values, with
+/// each that brings it back to that length. F-1: "A sheet may hold 38 records", and F-2: "The
+/// record limit rises by one", with or without kinds 5 and 6, so that a record is refused, and not
+/// the length.
 fn damaged_longest_sheets(longest: &Draft, random: &mut Random) -> Vec<Vec<u8>> {
     let size = longest.size;
     let mut sheets = Vec::new();
-    for draft in [longest, &without_small_engine(longest)] {
+    let [one, other] = without_one(longest);
+    for draft in [longest, &one, &other] {
         for way in &WAYS {
             let bytes = draft.bytes();
             let mut sheet = Sheet { size, bytes };
@@ -383,10 +417,11 @@ fn damaged_longest_sheets(longest: &Draft, random: &mut Random) -> Vec<Vec<u8>> 
     sheets
 }
 
-/// Every pollutant, a small engine, 32 engines and a stop.
+/// Every pollutant, a small engine, run-in values, 32 engines and a stop.
 fn longest_draft(size: usize, plan: u8, random: &mut Random) -> Draft {
     let mut draft = full_draft(size, plan, random);
     draft.put_small_engine(random_small_engine(random));
+    draft.run_in = Some(random.pick(&draft.engines).measurements);
     draft.stopped = true;
     draft
 }
@@ -433,7 +468,7 @@ fn random_bytes(size: usize, random: &mut Random) -> Vec<u8> {
     if random.one_in(2) {
         sheet.truncate(sheet.len() - sheet.len() % size);
         for start in (0..sheet.len()).step_by(size) {
-            sheet[start] = random.pick(&[POLLUTANT, ENGINE, STOP, SMALL_ENGINE]);
+            sheet[start] = random.pick(&[POLLUTANT, ENGINE, STOP, SMALL_ENGINE, RUN_IN]);
         }
     }
     sheet

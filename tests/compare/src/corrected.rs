@@ -52,6 +52,7 @@ pub fn sheets(size: usize) -> Vec<Chosen> {
                     plan,
                     limit: LIMIT,
                     deviation: 0,
+                    run_in: None,
                     measurements: measurements.clone(),
                 };
                 sheets.push(series.with_report(size, number, decision, measurements.len()));

@@ -1,5 +1,5 @@
-//! A sheet in the making, as document 01's records describe it, F-1's with a small engine, and F-10's
-//! with six pollutants.
+//! A sheet in the making, as document 01's records describe it, F-1's with a small engine, F-2's
+//! with run-in values, and F-10's with six pollutants.
 
 use crate::calendar::random_day;
 use random::Random;
@@ -13,6 +13,7 @@ pub const POLLUTANT: u8 = 1;
 pub const ENGINE: u8 = 2;
 pub const STOP: u8 = 3;
 pub const SMALL_ENGINE: u8 = 5;
+pub const RUN_IN: u8 = 6;
 
 /// The pollutant of which a small engine's limit is asked.
 pub const PARTICULATES: u8 = 4;
@@ -80,6 +81,8 @@ pub struct Draft {
     pub plan: u8,
     pub pollutants: Vec<Pollutant>,
     pub small_engine: Option<SmallEngine>,
+    /// Kind 6: the first engine's values after running-in.
+    pub run_in: Option<Measurements>,
     pub engines: Vec<Engine>,
     pub stopped: bool,
 }
@@ -113,6 +116,7 @@ impl Draft {
             plan,
             pollutants,
             small_engine: None,
+            run_in: None,
             engines: Vec::new(),
             stopped: false,
         }
@@ -137,12 +141,12 @@ impl Draft {
         }
         let small_engine = self.small_engine.iter();
         sheet.extend(small_engine.flat_map(|small_engine| small_engine.record(self.size)));
-        let measured = Document01.pollutants(self.size);
+        let run_in = self.run_in.iter();
+        sheet.extend(run_in.flat_map(|values| run_in_record(self.size, values)));
         for engine in &self.engines {
             sheet.extend([ENGINE, 0]);
             sheet.extend(engine.cause.to_le_bytes());
-            let measurements = engine.measurements[..measured].iter();
-            sheet.extend(measurements.flat_map(|x| x.to_le_bytes()));
+            sheet.extend(measured_bytes(self.size, &engine.measurements));
         }
         if self.stopped {
             sheet.extend(stop_record(self.size));
@@ -184,14 +188,27 @@ fn end_record(sheet: &mut Vec<u8>, size: usize) {
     sheet.resize(sheet.len().next_multiple_of(size), 0);
 }
 
+/// As many measurements as the size has a place for.
+fn measured_bytes(size: usize, measurements: &Measurements) -> impl Iterator<Item = u8> + '_ {
+    let measured = measurements.iter().take(Document01.pollutants(size));
+    measured.flat_map(|x| x.to_le_bytes())
+}
+
+pub fn run_in_record(size: usize, values: &Measurements) -> Vec<u8> {
+    let mut record = vec![RUN_IN, 0, 0, 0];
+    record.extend(measured_bytes(size, values));
+    record
+}
+
 pub fn stop_record(size: usize) -> Vec<u8> {
     let mut record = vec![STOP];
     end_record(&mut record, size);
     record
 }
 
-/// The plans under which a sheet may have a small engine.
-pub fn plans_of_small_engines() -> impl Iterator<Item = u8> {
+/// The plans under which a sheet may have a small engine and run-in values: those of production,
+/// all but plan 4, in service.
+pub fn plans_of_production() -> impl Iterator<Item = u8> {
     (1..=PLANS).filter(|&plan| plan != 4)
 }
 
@@ -201,7 +218,7 @@ pub fn numbers(size: usize) -> impl Iterator<Item = u8> + Clone {
 }
 
 /// A random sheet that the check accepts, or now and then one with an engine too many, or with a
-/// small engine or a stop under plan 4.
+/// small engine, run-in values or a stop under plan 4.
 pub fn random_draft(size: usize, random: &mut Random) -> Draft {
     let plan = random.between(1, PLANS.into()) as u8;
     random_draft_under(size, plan, random)
@@ -223,10 +240,14 @@ pub fn random_draft_of(size: usize, plan: u8, numbers: &[u8], random: &mut Rando
         },
     });
     let mut draft = Draft::new(size, plan, pollutants.collect());
-    if random.one_in(if plan == 4 { 40 } else { 3 }) {
+    let one_in = if plan == 4 { 40 } else { 3 };
+    if random.one_in(one_in) {
         draft.put_small_engine(random_small_engine(random));
     }
     let spreads: Vec<Spread> = numbers.iter().map(|_| random.pick(&SPREADS)).collect();
+    if random.one_in(one_in) {
+        draft.run_in = Some(random_measurements(random, &draft, &spreads));
+    }
     let count = random_count(random, Document01.last_row(plan));
     let kept_open = random.one_in(4);
     for _ in 0..count {
@@ -296,6 +317,18 @@ pub fn random_small_engine(random: &mut Random) -> SmallEngine {
         speed: short(random, 3000),
         date: random_day(random),
     }
+}
+
+/// A record of kind 6 with values of these pollutants: ends of the range, or anything in it.
+pub fn random_run_in(size: usize, numbers: &[u8], random: &mut Random) -> Vec<u8> {
+    let mut values = [0; MOST_POLLUTANTS];
+    for number in numbers {
+        values[usize::from(*number) - 1] = match random.below(4) {
+            0 => random.pick(&[1, LARGEST]),
+            _ => random.magnitude(1, LARGEST),
+        };
+    }
+    run_in_record(size, &values)
 }
 
 fn random_limit(random: &mut Random) -> u32 {

@@ -7,7 +7,8 @@
 //! p / q, D = p k and the root of W is q k for some k.
 //!
 //! Several series are found on both sides in every row, and one on the line wherever there can be
-//! one; the comparison fails where one is not.
+//! one; the comparison fails where one is not. Each of plans 2 and 5 has a run-in twin (F-2) with
+//! the same d_j.
 
 use crate::draft::LARGEST;
 use crate::paper::{Cell, Line, Paper, Single};
@@ -152,7 +153,30 @@ fn single(plan: u8, limit: u32, differences: Vec<i64>) -> Option<Single> {
         plan,
         limit,
         deviation: 0,
+        run_in: None,
         measurements: measurements?,
+    })
+}
+
+/// How many shifts are tried for a run-in twin, and how far they go to either side.
+const SHIFTS: usize = 200;
+const WIDEST_SHIFT: u32 = 500_000;
+
+/// A run-in series with the same d_j: "g(x_j) + g(value) - g(x_1) - g(L)" is of the first engine
+/// g(value) - g(L), so that the value is what the plain series measures there; and every g(x_j) is
+/// moved by the same.
+pub fn run_in_twin(series: &Single, random: &mut Random) -> Option<Single> {
+    let value = *series.measurements.first()?;
+    (0..SHIFTS).find_map(|_| {
+        let up = i64::from(random.between(0, 2 * WIDEST_SHIFT));
+        let shift = up - i64::from(WIDEST_SHIFT);
+        let moved = |&x: &u32| with_logarithm(Document01.g(x) + shift);
+        let measurements: Option<Vec<u32>> = series.measurements.iter().map(moved).collect();
+        Some(Single {
+            run_in: Some(value),
+            measurements: measurements?,
+            ..series.clone()
+        })
     })
 }
 
@@ -209,7 +233,13 @@ fn widest_spread(plan: u8, c: i64, skewed: bool) -> f64 {
 
 /// The measurement with g(x) - g(L) = d; none if that is out of reach.
 fn measurement(plan: u8, limit: u32, d: i64) -> Option<u32> {
-    let wanted = Document01.g(limit) + d;
+    let x = with_logarithm(Document01.g(limit) + d)?;
+    let gross = plan == 4 && 2 * u64::from(x) > 3 * u64::from(limit);
+    (!gross).then_some(x)
+}
+
+/// The least m with this g where g takes every value; none if it is out of reach.
+fn with_logarithm(wanted: i64) -> Option<u32> {
     let (mut low, mut high) = (DENSE, LARGEST);
     while low < high {
         let middle = low.midpoint(high);
@@ -219,8 +249,7 @@ fn measurement(plan: u8, limit: u32, d: i64) -> Option<u32> {
             high = middle;
         }
     }
-    let gross = plan == 4 && 2 * u64::from(low) > 3 * u64::from(limit);
-    (Document01.g(low) == wanted && !gross).then_some(low)
+    (Document01.g(low) == wanted).then_some(low)
 }
 
 /// Three whole numbers with this sum and this sum of squares, the least of them first. With x from

@@ -1,6 +1,6 @@
-//! Pairs that stand on a line: two series that differ by 1 in one measurement, or in the
-//! deviation t, and get different reports. They are found by bisection, for every plan, every
-//! row and each of its lines that can decide there.
+//! Pairs that stand on a line: two series that differ by 1 in one measurement, in the deviation t
+//! or in the run-in value, and get different reports. They are found by bisection, for every plan,
+//! every row and each of its lines that can decide there, and again on run-in sheets.
 
 use crate::draft::LARGEST;
 use crate::paper::{Cell, Line, Paper, Single, Sums};
@@ -8,27 +8,50 @@ use random::Random;
 use second::Decision;
 
 pub struct Pair {
-    pub cell: Cell,
+    pub search: Search,
     pub series: [Single; 2],
 }
 
 /// How often a series is started anew before a cell is given up.
 const ATTEMPTS: usize = 20_000;
 
-/// Up to `count` pairs in a cell; under plan 1 by turns in a measurement and in the deviation.
-pub fn pairs(paper: &Paper, cell: Cell, count: usize, random: &mut Random) -> Vec<Pair> {
+/// Where pairs are looked for: in a cell, on run-in sheets or on others.
+#[derive(Clone, Copy, PartialEq, Eq)]
+pub struct Search {
+    pub cell: Cell,
+    pub run_in: bool,
+}
+
+/// Up to `count` pairs, by turns in each number that can be moved.
+pub fn pairs(paper: &Paper, search: Search, count: usize, random: &mut Random) -> Vec<Pair> {
     let mut pairs = Vec::new();
+    let knobs = search.knobs();
     for _ in 0..ATTEMPTS {
         if pairs.len() == count {
             break;
         }
-        let knob = match cell.plan {
-            1 if pairs.len().is_multiple_of(2) => Knob::Deviation,
-            _ => Knob::Measurement,
-        };
-        pairs.extend(find_pair(paper, cell, knob, random));
+        let knob = knobs[pairs.len() % knobs.len()];
+        pairs.extend(find_pair(paper, search, knob, random));
     }
     pairs
+}
+
+impl Search {
+    /// Plan 4 has no run-in sheets.
+    pub fn all_in(cell: Cell) -> impl Iterator<Item = Search> {
+        let sheets = [false, true].into_iter();
+        let sheets = sheets.filter(move |run_in| !run_in || cell.plan != 4);
+        sheets.map(move |run_in| Search { cell, run_in })
+    }
+
+    fn knobs(self) -> &'static [Knob] {
+        match (self.cell.plan, self.run_in) {
+            (1, false) => &[Knob::Deviation, Knob::Newest],
+            (_, false) => &[Knob::Newest],
+            (1, true) => &[Knob::Deviation, Knob::Newest, Knob::RunIn, Knob::First],
+            (_, true) => &[Knob::Newest, Knob::RunIn, Knob::First],
+        }
+    }
 }
 
 /// The decisions on the two sides of a line.
@@ -43,8 +66,13 @@ fn sides(line: Line) -> (Decision, Decision) {
 /// The number that is moved until the answer changes.
 #[derive(Clone, Copy)]
 enum Knob {
-    Measurement,
+    /// The newest engine's measurement.
+    Newest,
     Deviation,
+    /// The first engine's value after running-in.
+    RunIn,
+    /// What the run-in engine measured before, by which all others are corrected.
+    First,
 }
 
 /// A series that no row has decided, with its sums, and one engine more.
@@ -56,45 +84,64 @@ struct Trial {
 impl Trial {
     fn turned(&self, knob: Knob, value: u32) -> Single {
         let mut series = self.series.clone();
-        match knob {
-            Knob::Measurement => {
-                *series.measurements.last_mut().expect("an engine is tested") = value;
-            }
-            Knob::Deviation => series.deviation = value,
-        }
+        *knob.number(&mut series) = value;
         series
     }
 
     /// What the last engine's row says, if the series gets there undecided.
     fn decision(&self, paper: &Paper, knob: Knob, value: u32) -> Option<Decision> {
         match knob {
-            Knob::Measurement => Some(paper.row(self.series.plan, &self.before.with(value))),
-            Knob::Deviation => {
+            Knob::Newest => Some(paper.row(self.series.plan, &self.before.with(value))),
+            Knob::Deviation | Knob::RunIn | Knob::First => {
                 let (decision, n) = paper.outcome(&self.turned(knob, value));
                 (n == self.series.measurements.len()).then_some(decision)
             }
         }
     }
 
-    /// Values to look for the two sides of a line among.
+    /// Values to look for the two sides of a line among: those that are measured, any, and those
+    /// about the present one, with which the rows before are more likely to stay open.
     fn candidates(&self, knob: Knob, random: &mut Random) -> Vec<u32> {
-        let (mut values, most) = match knob {
-            Knob::Deviation => (Vec::new(), 4_000_000),
-            Knob::Measurement => {
-                let most = largest_measurement(self.series.plan, self.series.limit);
-                (self.series.measurements.clone(), most)
-            }
+        let mut series = self.series.clone();
+        let present = *knob.number(&mut series);
+        let most = match knob {
+            Knob::Deviation => 4_000_000,
+            _ => largest_measurement(series.plan, series.limit),
+        };
+        let mut values = match knob {
+            Knob::Newest => series.measurements,
+            _ => vec![present],
         };
         values.extend([1, most]);
         values.extend((0..24).map(|_| random.magnitude(1, most)));
         values.extend((0..24).map(|_| random.between(1, most)));
+        if matches!(knob, Knob::RunIn | Knob::First) {
+            let about = |random: &mut Random| {
+                let octaves = (random.fraction() * 2.0 - 1.0) * (random.fraction() * -8.0).exp2();
+                let value = f64::from(present) * octaves.exp2();
+                (value.round() as u32).clamp(1, most)
+            };
+            values.extend((0..48).map(|_| about(random)));
+        }
         values
     }
 }
 
-fn find_pair(paper: &Paper, cell: Cell, knob: Knob, random: &mut Random) -> Option<Pair> {
-    let trial = random_trial(paper, cell, random)?;
-    let (one_side, other_side) = sides(cell.line);
+impl Knob {
+    fn number(self, series: &mut Single) -> &mut u32 {
+        let number = match self {
+            Knob::Newest => series.measurements.last_mut(),
+            Knob::First => series.measurements.first_mut(),
+            Knob::RunIn => series.run_in.as_mut(),
+            Knob::Deviation => Some(&mut series.deviation),
+        };
+        number.expect("the series has such a number")
+    }
+}
+
+fn find_pair(paper: &Paper, search: Search, knob: Knob, random: &mut Random) -> Option<Pair> {
+    let trial = random_trial(paper, search, random)?;
+    let (one_side, other_side) = sides(search.cell.line);
     let decision = |value| trial.decision(paper, knob, value);
     let candidates = trial.candidates(knob, random);
     let on = |side| {
@@ -105,7 +152,7 @@ fn find_pair(paper: &Paper, cell: Cell, knob: Knob, random: &mut Random) -> Opti
         decision(value) == Some(one_side)
     });
     let series = [inside, outside].map(|value| trial.turned(knob, value));
-    (decision(outside) == Some(other_side)).then_some(Pair { cell, series })
+    (decision(outside) == Some(other_side)).then_some(Pair { search, series })
 }
 
 /// Two neighbours, the first with the property and the second without.
@@ -129,7 +176,8 @@ fn largest_measurement(plan: u8, limit: u32) -> u32 {
     }
 }
 
-/// How the measurements of a series lie: octaves above the limit, and to either side of that.
+/// How the measurements of a series lie: octaves above the level that they are held against, and to
+/// either side of that.
 struct Style {
     centre: f64,
     width: f64,
@@ -148,14 +196,14 @@ impl Style {
             1 => f64::from(series.deviation) / 1_000_000.0 * (random.fraction() * 4.0 - 2.0),
             _ => self.centre + self.width * (random.fraction() * 2.0 - 1.0),
         };
-        let x = (f64::from(series.limit) * octaves.exp2()).round() as u32;
+        let x = (series.level() * octaves.exp2()).round() as u32;
         x.clamp(1, largest_measurement(series.plan, series.limit))
     }
 }
 
 /// Grows a series of one pollutant undecided up to the row, and adds any engine.
-fn random_trial(paper: &Paper, cell: Cell, random: &mut Random) -> Option<Trial> {
-    let Cell { plan, row, .. } = cell;
+fn random_trial(paper: &Paper, search: Search, random: &mut Random) -> Option<Trial> {
+    let Cell { plan, row, .. } = search.cell;
     let mut series = Single {
         plan,
         limit: random_limit(random),
@@ -163,6 +211,7 @@ fn random_trial(paper: &Paper, cell: Cell, random: &mut Random) -> Option<Trial>
             1 => random.magnitude(50_000, 4_000_000),
             _ => 0,
         },
+        run_in: None,
         measurements: Vec::with_capacity(row),
     };
     let style = match row {
@@ -172,8 +221,14 @@ fn random_trial(paper: &Paper, cell: Cell, random: &mut Random) -> Option<Trial>
             width: random.fraction() + 0.3,
         },
     };
-    let mut before = Sums::none(&series);
-    for _ in 1..row {
+    if search.run_in {
+        run_in_first(&mut series, &style, random);
+    }
+    let mut before = series
+        .measurements
+        .iter()
+        .fold(Sums::none(&series), |sums, &x| sums.with(x));
+    for _ in series.measurements.len() + 1..row {
         let mut tries = std::iter::repeat_with(|| style.measurement(&series, random)).take(30);
         let x = tries.find(|&x| paper.row(plan, &before.with(x)) == Decision::Open)?;
         before = before.with(x);
@@ -182,6 +237,16 @@ fn random_trial(paper: &Paper, cell: Cell, random: &mut Random) -> Option<Trial>
     let newest = Style::random(random).measurement(&series, random);
     series.measurements.push(newest);
     Some(Trial { series, before })
+}
+
+/// The first engine: of it the value after running-in is what counts, and it measured up to four
+/// times as much before, or up to four times less.
+fn run_in_first(series: &mut Single, style: &Style, random: &mut Random) {
+    let value = style.measurement(series, random);
+    let octaves = random.fraction() * 4.0 - 2.0;
+    let first = (f64::from(value) * octaves.exp2()).round() as u32;
+    series.run_in = Some(value);
+    series.measurements.push(first.clamp(1, LARGEST));
 }
 
 fn random_limit(random: &mut Random) -> u32 {

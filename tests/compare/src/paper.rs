@@ -1,10 +1,11 @@
-//! The rows of the plans for one pollutant, without gross emitters and without a stop: the table
-//! of decision numbers as docs/FORMAT.md prints it, and document 01's rules in 128-bit integers.
+//! The rows of the plans for one pollutant, without gross emitters and without a stop, with run-in
+//! values (F-2) or without: the table of decision numbers as docs/FORMAT.md prints it, and document
+//! 01's rules in 128-bit integers.
 //! It chooses the sheets that stand on a line and says what has to be answered to them, so that
 //! neither implementation under test chooses what it is asked. Only g is the second
 //! implementation's: the g of every m that can be measured is compared with the library's.
 
-use crate::draft::{Draft, Pollutant};
+use crate::draft::{Draft, Measurements, Pollutant};
 use crate::tally::Tally;
 use second::{Column, Decision, Document, Document01, Ground, Verdict};
 use second::{LONGEST_REPORT, MOST_POLLUTANTS, PLANS};
@@ -47,15 +48,22 @@ pub struct Single {
     pub plan: u8,
     pub limit: u32,
     pub deviation: u32,
+    /// The first engine's value after running-in, on a run-in sheet.
+    pub run_in: Option<u32>,
     pub measurements: Vec<u32>,
 }
 
 /// One pollutant after n engines.
 #[derive(Clone, Copy)]
 pub struct Sums {
-    limit: u32,
     deviation: u32,
-    limit_logarithm: i128,
+    run_in: Option<u32>,
+    /// g(L), from which d_j is counted; on a run-in sheet g(L) + g(x_1) - g(value).
+    level: i128,
+    /// An engine is over the limit if so many times x is above this product: once x, and L; on a
+    /// run-in sheet x times the value, and L x x_1.
+    times: i128,
+    product: i128,
     n: usize,
     /// D, and the sum of the d_j squared.
     d: i128,
@@ -208,17 +216,26 @@ fn number(cell: &str) -> Option<i128> {
 }
 
 impl Single {
-    fn bytes(&self, size: usize, number: u8) -> Vec<u8> {
+    /// What the next engine's measurement is held against: the limit, or what a run-in engine's
+    /// value would have been before, corrected as the first was.
+    pub fn level(&self) -> f64 {
+        let limit = f64::from(self.limit);
+        match (self.run_in, self.measurements.first()) {
+            (Some(value), Some(&first)) => limit * f64::from(first) / f64::from(value),
+            _ => limit,
+        }
+    }
+
+    pub fn bytes(&self, size: usize, number: u8) -> Vec<u8> {
         let pollutant = Pollutant {
             number,
             limit: self.limit,
             deviation: self.deviation,
         };
         let mut draft = Draft::new(size, self.plan, vec![pollutant]);
+        draft.run_in = self.run_in.map(|value| measured_alone(number, value));
         for &x in &self.measurements {
-            let mut measurements = [0; MOST_POLLUTANTS];
-            measurements[usize::from(number) - 1] = x;
-            draft.test(measurements, 0);
+            draft.test(measured_alone(number, x), 0);
         }
         draft.bytes()
     }
@@ -244,12 +261,21 @@ impl Single {
     }
 }
 
+/// One pollutant's number, and zero for the others.
+pub fn measured_alone(number: u8, x: u32) -> Measurements {
+    let mut measurements = [0; MOST_POLLUTANTS];
+    measurements[usize::from(number) - 1] = x;
+    measurements
+}
+
 impl Sums {
     pub fn none(series: &Single) -> Self {
         Sums {
-            limit: series.limit,
             deviation: series.deviation,
-            limit_logarithm: i128::from(Document01.g(series.limit)),
+            run_in: series.run_in,
+            level: logarithm(series.limit),
+            times: 1,
+            product: series.limit.into(),
             n: 0,
             d: 0,
             squares: 0,
@@ -257,14 +283,32 @@ impl Sums {
         }
     }
 
-    /// One engine more.
+    /// One engine more, which on a run-in sheet corrects itself and the others if it is the first.
     pub fn with(self, x: u32) -> Self {
-        let d = i128::from(Document01.g(x)) - self.limit_logarithm;
+        match self.run_in {
+            Some(value) if self.n == 0 => self.corrected(value, x).with_measured(x),
+            _ => self.with_measured(x),
+        }
+    }
+
+    /// F-2: "Each d_j becomes g(x_j) + g(value) - g(x_1) - g(L); attributes compare x_j x value
+    /// with L x x_1."
+    fn corrected(self, value: u32, first: u32) -> Self {
+        Sums {
+            level: self.level + logarithm(first) - logarithm(value),
+            times: value.into(),
+            product: self.product * i128::from(first),
+            ..self
+        }
+    }
+
+    fn with_measured(self, x: u32) -> Self {
+        let d = logarithm(x) - self.level;
         Sums {
             n: self.n + 1,
             d: self.d + d,
             squares: self.squares + d * d,
-            over: self.over + i128::from(x > self.limit),
+            over: self.over + i128::from(i128::from(x) * self.times > self.product),
             ..self
         }
     }
@@ -296,6 +340,10 @@ impl Sums {
     fn root(&self, c: i128) -> i128 {
         signed_square(c) * (self.n as i128 * self.squares - self.d * self.d)
     }
+}
+
+fn logarithm(m: u32) -> i128 {
+    Document01.g(m).into()
 }
 
 /// The square with the sign of x. It rises with x, so it compares as x does, and of a root it is

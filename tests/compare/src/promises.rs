@@ -1,17 +1,40 @@
-//! Demand 3 as a property of random sheets, on the second implementation itself: a decision is
-//! kept by every longer sheet, a full sheet is decided, and under plans 1 and 3 lower
-//! measurements never make a pass later or a fail sooner. Of plan 5, F-6 says: "Keeping a decision
-//! and ending at 32 hold for it too"; and F-10: "Keeping a decision, ending and lowering hold for
-//! either size". They hold with a small engine (F-1) as without, and its record decides nothing.
+//! Demand 3 as a property of random sheets, on the second implementation itself: a decision is kept
+//! by every longer sheet, a full sheet is decided, and under plans 1 and 3 lower measurements never
+//! make a pass later or a fail sooner. Of plan 5, F-6 says: "Keeping a decision and ending at 32
+//! hold for it too"; and F-10: "Keeping a decision, ending and lowering hold for either size". They
+//! hold with a small engine (F-1) as without, and its record decides nothing. With run-in values
+//! (F-2) keeping and ending hold too; "on a run-in sheet the run-in values are measurements too;
+//! lowering keeps its meaning there if the first engine's zero-hour values are the same in both
+//! sheets".
 
-use crate::draft::{full_draft, plans_of_small_engines, random_draft, random_small_engine, Draft};
+use crate::draft::{full_draft, plans_of_production, random_draft, random_small_engine};
+use crate::draft::{Draft, Pollutant};
+use crate::paper::measured_alone;
 use crate::tally::Tally;
 use random::Random;
 use second::{judge, Document, Document01, Judgement, Verdict, PLANS};
 use std::collections::BTreeMap;
+use std::fmt;
 
-/// The plan of a sheet, and whether it has a small engine.
-type Group = (u8, bool);
+/// The plan of a sheet, and whether it has a small engine and run-in values.
+#[derive(Clone, Copy, PartialEq, Eq, PartialOrd, Ord)]
+struct Group {
+    plan: u8,
+    small_engine: bool,
+    run_in: bool,
+}
+
+impl fmt::Display for Group {
+    fn fmt(&self, formatter: &mut fmt::Formatter) -> fmt::Result {
+        let with = match (self.small_engine, self.run_in) {
+            (false, false) => "",
+            (true, false) => " with a small engine",
+            (false, true) => " with run-in values",
+            (true, true) => " with a small engine and run-in values",
+        };
+        write!(formatter, "plan {}{with}", self.plan)
+    }
+}
 
 /// How often one promise was put to the test.
 type Counts = BTreeMap<Group, u64>;
@@ -29,13 +52,8 @@ struct Promises {
 pub fn keep(size: usize, count: usize, tally: &mut Tally) {
     let mut random = Random::new(0xD3);
     let mut promises = Promises::default();
-    for (plan, with_small_engine) in groups() {
-        let mut draft = full_draft(size, plan, &mut random);
-        draft.small_engine = None;
-        if with_small_engine {
-            draft.put_small_engine(random_small_engine(&mut random));
-        }
-        draft.stopped = plan != 4;
+    for group in groups() {
+        let draft = full_draft_of(size, group, &mut random);
         promises.look_at(&draft, &mut random, tally);
     }
     for _ in 0..count {
@@ -43,12 +61,36 @@ pub fn keep(size: usize, count: usize, tally: &mut Tally) {
         promises.look_at(&draft, &mut random, tally);
     }
     promises.print(tally);
+    lowering_needs_the_first_engine(size, tally);
 }
 
-/// Each plan without a small engine, and with one if it may have one.
+/// With its stop, if it may have one.
+fn full_draft_of(size: usize, group: Group, random: &mut Random) -> Draft {
+    let mut draft = full_draft(size, group.plan, random);
+    draft.small_engine = None;
+    if group.small_engine {
+        draft.put_small_engine(random_small_engine(random));
+    }
+    let engine = random.pick(&draft.engines);
+    draft.run_in = group.run_in.then_some(engine.measurements);
+    draft.stopped = group.plan != 4;
+    draft
+}
+
+/// Each plan without a small engine and run-in values, and with each of them and both if it may
+/// have them.
 fn groups() -> impl Iterator<Item = Group> {
-    let without = (1..=PLANS).map(|plan| (plan, false));
-    without.chain(plans_of_small_engines().map(|plan| (plan, true)))
+    let group = |plan, [small_engine, run_in]: [bool; 2]| Group {
+        plan,
+        small_engine,
+        run_in,
+    };
+    let plain = (1..=PLANS).map(move |plan| group(plan, [false, false]));
+    let others = plans_of_production().flat_map(move |plan| {
+        let kinds = [[true, false], [false, true], [true, true]];
+        kinds.map(|kinds| group(plan, kinds))
+    });
+    plain.chain(others)
 }
 
 /// Lowering is promised under plans 1 and 3.
@@ -62,7 +104,11 @@ impl Promises {
         let Ok(judgement) = draft.judged() else {
             return;
         };
-        let group = (draft.plan, draft.small_engine.is_some());
+        let group = Group {
+            plan: draft.plan,
+            small_engine: draft.small_engine.is_some(),
+            run_in: draft.run_in.is_some(),
+        };
         *self.kept.entry(group).or_default() += decision_is_kept(draft, &judgement, tally);
         *self.full.entry(group).or_default() += full_is_decided(draft, tally);
         let lower = self.lower.entry(group).or_default();
@@ -76,7 +122,7 @@ impl Promises {
         print_counts(begun, &self.kept, groups(), tally);
         print_counts("full sheets: decided", &self.full, groups(), tally);
         let lowered = "sheets with lower measurements: no worse";
-        let lowering = groups().filter(|group| promises_lowering(group.0));
+        let lowering = groups().filter(|group| promises_lowering(group.plan));
         print_counts(lowered, &self.lower, lowering, tally);
     }
 }
@@ -89,13 +135,9 @@ fn print_counts(
     tally: &mut Tally,
 ) {
     for group in groups {
-        let name = match group {
-            (plan, false) => format!("plan {plan}"),
-            (plan, true) => format!("plan {plan} with a small engine"),
-        };
         match counts.get(&group) {
-            Some(count @ 1..) => println!("  {name}: {count} {promise}"),
-            _ => tally.gap(&format!("{name}, {promise}")),
+            Some(count @ 1..) => println!("  {group}: {count} {promise}"),
+            _ => tally.gap(&format!("{group}, {promise}")),
         }
     }
 }
@@ -157,18 +199,46 @@ fn decides_by(one: &Judgement, other: &Judgement, verdict: Verdict) -> bool {
     one.verdict == verdict && one.engine <= other.engine
 }
 
-/// Alike in all but the measurements, and none is higher.
+/// Alike in all but the measurements, and none is higher. On a run-in sheet the run-in values are
+/// measurements too, and what the first engine measured before is the same.
 fn lowered(draft: &Draft, random: &mut Random) -> Draft {
     let mut lower = draft.clone();
     let seldom = random.between(1, 8) as usize;
-    for engine in &mut lower.engines {
-        for x in &mut engine.measurements {
-            if *x > 1 && random.one_in(seldom) {
-                *x -= random.pick(&[1, *x / 8, *x / 2]).min(*x - 1);
-            }
+    let kept = usize::from(draft.run_in.is_some());
+    let engines = lower.engines.iter_mut().skip(kept);
+    let measured = engines.map(|engine| &mut engine.measurements);
+    for x in measured.chain(&mut lower.run_in).flatten() {
+        if *x > 1 && random.one_in(seldom) {
+            *x -= random.pick(&[1, *x / 8, *x / 2]).min(*x - 1);
         }
     }
     lower
+}
+
+/// Where what the first engine measured before is lower, a sheet can be worse by it: plan 3, limit
+/// 1, value 1, and engines at 2, 1, 1 and 2 pass at 4; with the first at 1 they do not.
+fn lowering_needs_the_first_engine(size: usize, tally: &mut Tally) {
+    let pollutant = Pollutant {
+        number: 1,
+        limit: 1,
+        deviation: 0,
+    };
+    let [higher, lower] = [[2, 1, 1, 2], [1, 1, 1, 2]].map(|engines| {
+        let mut draft = Draft::new(size, 3, vec![pollutant]);
+        draft.run_in = Some(measured_alone(1, 1));
+        for x in engines {
+            draft.test(measured_alone(1, x), 0);
+        }
+        draft
+            .judged()
+            .map(|judgement| (judgement.verdict, judgement.engine))
+    });
+    let worse = [higher, lower] == [Ok((Verdict::Pass, 4)), Ok((Verdict::Another, 4))];
+    tally.expect(
+        worse,
+        &[],
+        "a lower first engine can be worse on a run-in sheet",
+    );
 }
 
 /// A small engine is asked for its limit alone: without its record the sheet is judged alike.

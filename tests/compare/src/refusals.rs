@@ -2,14 +2,15 @@
 //! sheet.
 
 use crate::calendar::random_day;
-use crate::draft::{random_draft, random_small_engine, stop_record, SmallEngine};
-use crate::draft::{ENGINE, PARTICULATES, POLLUTANT, SMALL_ENGINE, STOP};
+use crate::draft::{random_draft, random_run_in, random_small_engine, stop_record};
+use crate::draft::{Draft, SmallEngine};
+use crate::draft::{ENGINE, PARTICULATES, POLLUTANT, RUN_IN, SMALL_ENGINE, STOP};
 use random::Random;
 use second::{Document, Document01, PLANS};
 use std::ops::Range;
 
 /// The refusals that name a record, in the order in which they stand in one.
-pub const OF_RECORD: [u8; 14] = [2, 3, 16, 17, 18, 4, 5, 6, 7, 8, 9, 10, 11, 12];
+pub const OF_RECORD: [u8; 15] = [2, 3, 16, 17, 18, 19, 4, 5, 6, 7, 8, 9, 10, 11, 12];
 
 /// One way to a refusal. `spoil` tells whether the sheet had a place for it.
 pub struct Way {
@@ -34,7 +35,7 @@ const fn way(refusal: u8, name: &'static str, spoil: fn(&mut Sheet, &mut Random)
     }
 }
 
-pub const WAYS: [Way; 72] = [
+pub const WAYS: [Way; 88] = [
     way(1, "no bytes", |sheet, _| {
         sheet.bytes.clear();
         true
@@ -68,9 +69,12 @@ pub const WAYS: [Way; 72] = [
     way(2, "kind 4", |sheet, random| {
         sheet.set(random, any_kind, 0..1, |_| 4)
     }),
-    way(2, "kind 6 to 255", |sheet, random| {
+    way(2, "kind 7", |sheet, random| {
+        sheet.set(random, any_kind, 0..1, |_| 7)
+    }),
+    way(2, "kind 8 to 255", |sheet, random| {
         sheet.set(random, any_kind, 0..1, |random| {
-            random.between(6, 255) as u8
+            random.between(8, 255) as u8
         })
     }),
     way(3, "an engine first", |sheet, _| {
@@ -108,6 +112,34 @@ pub const WAYS: [Way; 72] = [
         let pollutant = sheet.bytes[..sheet.size].to_vec();
         sheet.gets_small_engine(random) && sheet.insert(sheet.end_of(SMALL_ENGINE), &pollutant)
     }),
+    way(3, "run-in values first", |sheet, random| {
+        sheet.insert_run_in(0, random)
+    }),
+    way(3, "run-in values after a stop", |sheet, random| {
+        sheet.has(STOP) && sheet.insert_run_in(sheet.bytes.len(), random)
+    }),
+    way(3, "a pollutant after run-in values", |sheet, random| {
+        let pollutant = sheet.bytes[..sheet.size].to_vec();
+        sheet.gets_run_in(random) && sheet.insert(sheet.end_of(RUN_IN), &pollutant)
+    }),
+    way(
+        16,
+        "the only small engine after run-in values",
+        |sheet, random| {
+            !sheet.has(SMALL_ENGINE)
+                && sheet.gets_run_in(random)
+                && sheet.insert_small_engine(sheet.end_of(RUN_IN), random)
+        },
+    ),
+    way(
+        16,
+        "a second small engine after run-in values",
+        |sheet, random| {
+            sheet.gets_small_engine(random)
+                && sheet.gets_run_in(random)
+                && sheet.insert_small_engine(sheet.end_of(RUN_IN), random)
+        },
+    ),
     way(
         16,
         "a small engine after a small engine",
@@ -218,6 +250,42 @@ pub const WAYS: [Way; 72] = [
         let limit = random.pick(&[1, 9_999_999, rule - 1, rule + 1, rule + 256, rule + 65_536]);
         sheet.set_rule(random, small_engine, limit)
     }),
+    way(19, "run-in values after run-in values", |sheet, random| {
+        sheet.gets_run_in(random) && sheet.insert_run_in(sheet.end_of(RUN_IN), random)
+    }),
+    way(
+        19,
+        "second run-in values after an engine",
+        |sheet, random| {
+            sheet.has(ENGINE)
+                && sheet.gets_run_in(random)
+                && sheet.insert_run_in(sheet.end_of(ENGINE), random)
+        },
+    ),
+    way(
+        19,
+        "the only run-in values after an engine",
+        |sheet, random| {
+            sheet.plan() != 4
+                && sheet.has(ENGINE)
+                && !sheet.has(RUN_IN)
+                && sheet.insert_run_in(sheet.end_of(ENGINE), random)
+        },
+    ),
+    way(
+        19,
+        "run-in values after the pollutants in plan 4",
+        |sheet, random| sheet.plan() == 4 && sheet.insert_run_in(sheet.end_of(POLLUTANT), random),
+    ),
+    way(
+        19,
+        "run-in values after a vehicle in plan 4",
+        |sheet, random| {
+            sheet.plan() == 4
+                && sheet.has(ENGINE)
+                && sheet.insert_run_in(sheet.end_of(ENGINE), random)
+        },
+    ),
     way(4, "pollutant 0", |sheet, random| {
         sheet.set(random, is_pollutant, 1..2, |_| 0)
     }),
@@ -310,6 +378,22 @@ pub const WAYS: [Way; 72] = [
                 && sheet.set_u32(random, is_engine, place_of(number), not_zero_u32)
         },
     ),
+    way(8, "run-in value 0", |sheet, random| {
+        let place = sheet.measurement_place(random, true);
+        place.is_some_and(|place| sheet.set_run_in(random, place, |_| 0))
+    }),
+    way(8, "run-in value over 9,999,999", |sheet, random| {
+        let place = sheet.measurement_place(random, true);
+        place.is_some_and(|place| sheet.set_run_in(random, place, above_range))
+    }),
+    way(
+        8,
+        "run-in value of an undeclared pollutant",
+        |sheet, random| {
+            let place = sheet.measurement_place(random, false);
+            place.is_some_and(|place| sheet.set_run_in(random, place, not_zero_u32))
+        },
+    ),
     way(9, "cause outside plan 4", |sheet, random| {
         sheet.plan() != 4 && sheet.set(random, is_engine, 2..4, |random| random.pick(&[1, 7, 255]))
     }),
@@ -359,6 +443,12 @@ pub const WAYS: [Way; 72] = [
     way(12, "the last byte of a small engine", |sheet, random| {
         sheet.spoil_small_engine(random, sheet.size - 1..sheet.size)
     }),
+    way(12, "byte 1 of run-in values", |sheet, random| {
+        sheet.gets_run_in(random) && sheet.set(random, is_run_in, 1..2, not_zero)
+    }),
+    way(12, "bytes 2 and 3 of run-in values", |sheet, random| {
+        sheet.gets_run_in(random) && sheet.set(random, is_run_in, 2..4, not_zero)
+    }),
     way(12, "bytes 1 to 11 of a stop", |sheet, random| {
         sheet.set(random, is_stop, 1..12, not_zero)
     }),
@@ -390,6 +480,10 @@ fn is_stop(record: &[u8]) -> bool {
 
 fn is_small_engine(record: &[u8]) -> bool {
     record[0] == SMALL_ENGINE
+}
+
+fn is_run_in(record: &[u8]) -> bool {
+    record[0] == RUN_IN
 }
 
 fn is_particulates(record: &[u8]) -> bool {
@@ -498,6 +592,38 @@ impl Sheet {
             && self.write(random, is_particulates, 4, &limit.to_le_bytes())
     }
 
+    /// Puts in run-in values that are accepted, if there are none yet; plan 4 has no place for
+    /// them.
+    fn gets_run_in(&mut self, random: &mut Random) -> bool {
+        if self.plan() == 4 {
+            return false;
+        }
+        if !self.has(RUN_IN) {
+            let heading = self.end_of(POLLUTANT).max(self.end_of(SMALL_ENGINE));
+            self.insert_run_in(heading, random);
+        }
+        true
+    }
+
+    /// A record of kind 6 at any place, with values of the declared pollutants.
+    fn insert_run_in(&mut self, place: usize, random: &mut Random) -> bool {
+        let declared: Vec<u8> = (1..=self.last_pollutant())
+            .filter(|&number| self.declares(number))
+            .collect();
+        let record = random_run_in(self.size, &declared, random);
+        self.insert(place, &record)
+    }
+
+    /// A value in a record of kind 6.
+    fn set_run_in(
+        &mut self,
+        random: &mut Random,
+        place: usize,
+        value: fn(&mut Random) -> u32,
+    ) -> bool {
+        self.gets_run_in(random) && self.set_u32(random, is_run_in, place, value)
+    }
+
     fn has(&self, kind: u8) -> bool {
         self.first(kind).is_some()
     }
@@ -588,24 +714,35 @@ impl Sheet {
     }
 }
 
-/// Every byte without a field, not zero in one bit, on a sheet that has no other fault: of a
-/// pollutant, of a small engine, of an engine and of a stop. Each sheet comes with the record that
-/// has the byte.
-pub fn unused_bytes(size: usize, random: &mut Random) -> Vec<(usize, Vec<u8>)> {
-    let sheet = loop {
+/// The pollutants of a random sheet, a small engine, run-in values, an engine and a stop.
+fn of_every_kind(size: usize, random: &mut Random) -> Draft {
+    let mut draft = loop {
         let draft = random_draft(size, random);
-        let whole = draft.small_engine.is_some() && draft.engines.len() == 1 && draft.stopped;
-        if draft.plan != 4 && whole {
-            break draft.bytes();
+        if draft.plan != 4 && !draft.engines.is_empty() {
+            break draft;
         }
     };
+    draft.put_small_engine(random_small_engine(random));
+    draft.run_in = Some(random.pick(&draft.engines).measurements);
+    draft.engines.truncate(1);
+    draft.stopped = true;
+    draft
+}
+
+/// Every byte without a field, not zero in one bit, on a sheet that has no other fault: of a
+/// pollutant, of a small engine, of run-in values, of an engine and of a stop. Each sheet comes
+/// with the record that has the byte.
+pub fn unused_bytes(size: usize, random: &mut Random) -> Vec<(usize, Vec<u8>)> {
+    let sheet = of_every_kind(size, random).bytes();
     let stop = sheet.len() / size - 1;
-    let (engine, small_engine) = (stop - 1, stop - 2);
+    let (engine, run_in, small_engine) = (stop - 1, stop - 2, stop - 3);
     let of_pollutant = [3].into_iter().chain(12..size).map(|byte| (0, byte));
     let of_small_engine = [1, 6, 7].into_iter().chain(12..size);
     let of_small_engine = of_small_engine.map(|byte| (small_engine, byte));
+    let of_run_in = (1..4).map(|byte| (run_in, byte));
     let of_stop = (1..size).map(|byte| (stop, byte));
-    let of_others = of_pollutant.chain(of_small_engine).chain(of_stop);
+    let of_headings = of_pollutant.chain(of_small_engine).chain(of_run_in);
+    let of_others = of_headings.chain(of_stop);
     let mut sheets = Vec::new();
     for (record, byte) in of_others.chain([(engine, 1)]) {
         for bit in 0..8 {

@@ -1,13 +1,16 @@
 //! What the compared answers showed in records of one size: every refusal, every verdict with its
-//! ground under every plan that can end so, every pollutant passed and failed and the only one by
-//! which a vehicle is a gross emitter, small engines by each clause of F-1, the longest sheets; and a
-//! pair in every cell of the table of lines. What was never seen was never compared.
+//! ground under every plan that can end so, also on run-in sheets, every pollutant passed and
+//! failed and the only one by which a vehicle is a gross emitter, small engines by each clause of
+//! F-1, run-in values by each of F-2 and at the ends of their range, the longest sheets; and a pair
+//! in every cell of the table of lines. What was never seen was never compared.
 
 use crate::cases::{Answer, Case};
-use crate::clauses::{has_small_engine, last_days, Accepted, Clause, Refused, CLAUSES};
-use crate::corpus::{LineSeries, EXACT_IN_CELL};
-use crate::draft::plans_of_small_engines;
+use crate::clauses::{has, last_days, run_in_ends, Accepted, Clause, Refused};
+use crate::clauses::{CLAUSES, ENDS, PLACES_OF_ENDS};
+use crate::corpus::{Exact, LineSeries, EXACT_IN_CELL};
+use crate::draft::{plans_of_production, RUN_IN, SMALL_ENGINE};
 use crate::exact::{has_series_on_line, Stand};
+use crate::pairs::Search;
 use crate::paper::{Cell, Line};
 use crate::refusals::OF_RECORD;
 use crate::tally::{Kinds, Tally};
@@ -39,10 +42,12 @@ enum Kind {
     Refusal(u8),
     Ending {
         plan: u8,
+        run_in: bool,
         verdict: u8,
         ground: u8,
     },
     Decision {
+        run_in: bool,
         pollutant: usize,
         decision: u8,
     },
@@ -57,10 +62,24 @@ enum Kind {
     /// Month and day.
     LastDay([u32; 2]),
     DayAfterLast([u32; 2]),
+    /// Beside a small engine or without one.
+    RunInBeside {
+        plan: u8,
+        small_engine: bool,
+    },
+    /// An end of the range, and its place on a run-in sheet.
+    RunInEnd {
+        plan: u8,
+        place: &'static str,
+        number: u32,
+    },
     RefusedBy(Clause),
     Records(usize),
-    /// Of so many without a small engine: not the length.
-    RefusedRecord(usize),
+    /// Of so many without a record of this kind: not the length.
+    RefusedRecord {
+        without: u8,
+        records: usize,
+    },
     TooManyRecords(usize),
 }
 
@@ -70,20 +89,22 @@ impl fmt::Display for Kind {
             Kind::Refusal(number) => write!(formatter, "refusal {number:2}"),
             Kind::Ending {
                 plan,
+                run_in,
                 verdict,
                 ground,
             } => {
                 let mut endings = ENDINGS.into_iter();
                 let ending = endings.find(|ending| (ending.0, ending.1) == (verdict, ground));
                 let name = ending.map_or("no ending", |ending| ending.2);
-                write!(formatter, "plan {plan}, {name}")
+                write!(formatter, "plan {plan}, {}{name}", sheet(run_in))
             }
             Kind::Decision {
+                run_in,
                 pollutant,
                 decision,
             } => {
                 let word = ["open", "pass", "fail"][usize::from(decision)];
-                write!(formatter, "pollutant {pollutant}, {word}")
+                write!(formatter, "{}pollutant {pollutant}, {word}", sheet(run_in))
             }
             Kind::GrossEmitterBy { pollutant } => {
                 write!(formatter, "gross emitter by pollutant {pollutant} alone")
@@ -99,12 +120,24 @@ impl fmt::Display for Kind {
             Kind::DayAfterLast([month, day]) => {
                 write!(formatter, "refusal 17 for day {day} of month {month}")
             }
-            Kind::RefusedBy((number, clause)) => write!(formatter, "refusal {number:2}, {clause}"),
-            Kind::Records(records) => write!(formatter, "accepted with {records} records"),
-            Kind::RefusedRecord(records) => {
+            Kind::RunInBeside { plan, small_engine } => {
+                let beside = if small_engine { "beside" } else { "without" };
                 write!(
                     formatter,
-                    "a record refused of {records} without a small engine"
+                    "plan {plan}, run-in values {beside} a small engine"
+                )
+            }
+            Kind::RunInEnd {
+                plan,
+                place,
+                number,
+            } => write!(formatter, "plan {plan}, run-in sheet, {place} of {number}"),
+            Kind::RefusedBy((number, clause)) => write!(formatter, "refusal {number:2}, {clause}"),
+            Kind::Records(records) => write!(formatter, "accepted with {records} records"),
+            Kind::RefusedRecord { without, records } => {
+                write!(
+                    formatter,
+                    "a record refused of {records} without kind {without}"
                 )
             }
             Kind::TooManyRecords(records) => write!(formatter, "refused for {records} records"),
@@ -112,36 +145,67 @@ impl fmt::Display for Kind {
     }
 }
 
+fn sheet(run_in: bool) -> &'static str {
+    if run_in {
+        "run-in sheet, "
+    } else {
+        ""
+    }
+}
+
 /// What has to be seen in records of this size.
 fn demanded(size: usize) -> Vec<Kind> {
-    let mut kinds: Vec<Kind> = (1..=18).map(Kind::Refusal).collect();
-    for plan in 1..=PLANS {
-        let endings = ENDINGS.into_iter();
-        let endings = endings.filter(|ending| can_end(plan, ending.1));
-        kinds.extend(endings.map(|(verdict, ground, _)| Kind::Ending {
-            plan,
-            verdict,
-            ground,
-        }));
-    }
+    let mut kinds: Vec<Kind> = (1..=19).map(Kind::Refusal).collect();
+    kinds.extend((1..=PLANS).flat_map(|plan| demanded_endings(plan, false)));
     for pollutant in 1..=Document01.pollutants(size) {
-        kinds.extend([1, 2].map(|decision| Kind::Decision {
-            pollutant,
-            decision,
-        }));
+        for run_in in [false, true] {
+            kinds.extend([1, 2].map(|decision| Kind::Decision {
+                run_in,
+                pollutant,
+                decision,
+            }));
+        }
         kinds.push(Kind::GrossEmitterBy { pollutant });
     }
-    for plan in plans_of_small_engines() {
+    for plan in plans_of_production() {
         let limits = [None, Some(150), Some(250)];
         kinds.extend(limits.map(|limit| Kind::SmallEngine { plan, limit }));
+        kinds.extend(demanded_of_run_in(plan));
     }
     kinds.extend(last_days().map(Kind::LastDay));
     kinds.extend(last_days().map(|[month, day]| Kind::DayAfterLast([month, day + 1])));
     kinds.extend(CLAUSES.map(Kind::RefusedBy));
     let most = Document01.most_records(size);
     kinds.extend([most - 1, most].map(Kind::Records));
-    kinds.push(Kind::RefusedRecord(most));
+    kinds.extend([SMALL_ENGINE, RUN_IN].map(|without| Kind::RefusedRecord {
+        without,
+        records: most,
+    }));
     kinds.push(Kind::TooManyRecords(most + 1));
+    kinds
+}
+
+fn demanded_endings(plan: u8, run_in: bool) -> impl Iterator<Item = Kind> {
+    let endings = ENDINGS.into_iter();
+    let endings = endings.filter(move |ending| can_end(plan, ending.1));
+    endings.map(move |(verdict, ground, _)| Kind::Ending {
+        plan,
+        run_in,
+        verdict,
+        ground,
+    })
+}
+
+fn demanded_of_run_in(plan: u8) -> Vec<Kind> {
+    let mut kinds: Vec<Kind> = demanded_endings(plan, true).collect();
+    kinds.extend([false, true].map(|small_engine| Kind::RunInBeside { plan, small_engine }));
+    for place in PLACES_OF_ENDS {
+        kinds.extend(ENDS.map(|number| Kind::RunInEnd {
+            plan,
+            place,
+            number,
+        }));
+    }
     kinds
 }
 
@@ -179,25 +243,34 @@ impl Seen {
         if let Some(day) = refused.day_after_last() {
             self.0.count(Kind::DayAfterLast(day));
         }
-        if !has_small_engine(size, sheet) {
-            self.0.count(Kind::RefusedRecord(sheet.len() / size));
+        for without in [SMALL_ENGINE, RUN_IN] {
+            if !has(without, size, sheet) {
+                let records = sheet.len() / size;
+                self.0.count(Kind::RefusedRecord { without, records });
+            }
         }
     }
 
     fn note_report(&mut self, size: usize, sheet: &[u8], report: &[u8]) {
+        let (plan, run_in) = (sheet[2], has(RUN_IN, size, sheet));
         self.0.count(Kind::Ending {
-            plan: sheet[2],
+            plan,
+            run_in,
             verdict: report[1],
             ground: report[2],
         });
         for pollutant in 1..=Document01.pollutants(size) {
             let decision = report[2 + 2 * pollutant];
             self.0.count(Kind::Decision {
+                run_in,
                 pollutant,
                 decision,
             });
         }
         self.0.count(Kind::Records(sheet.len() / size));
+        if run_in {
+            self.note_run_in(plan, size, sheet);
+        }
         if let Some(small_engine) = Accepted::new(size, sheet) {
             self.note_small_engine(&small_engine);
         }
@@ -212,6 +285,18 @@ impl Seen {
         self.0.count(Kind::SmallEngine { plan, limit });
         if let Some(day) = small_engine.last_day {
             self.0.count(Kind::LastDay(day));
+        }
+    }
+
+    fn note_run_in(&mut self, plan: u8, size: usize, sheet: &[u8]) {
+        let small_engine = has(SMALL_ENGINE, size, sheet);
+        self.0.count(Kind::RunInBeside { plan, small_engine });
+        for (place, number) in run_in_ends(size, sheet) {
+            self.0.count(Kind::RunInEnd {
+                plan,
+                place,
+                number,
+            });
         }
     }
 
@@ -233,12 +318,18 @@ impl Seen {
     }
 }
 
-/// The table of pairs: a dash where no series can decide.
+/// The tables of pairs, without run-in values and with them: a dash where no series can decide.
 pub fn print_pairs(series: &LineSeries, tally: &mut Tally) {
     println!("pairs on a line (plan, row, pass, fail; = where pass and fail share the line)");
-    print_table(series, 1..=PLANS, 1, tally, |cell| {
+    let count = |cell, run_in| {
+        let search = Search { cell, run_in };
         let pairs = series.pairs.iter();
-        vec![pairs.filter(|pair| pair.cell == cell).count()]
+        vec![pairs.filter(|pair| pair.search == search).count()]
+    };
+    print_table(series, 1..=PLANS, 1, tally, |cell| count(cell, false));
+    println!("pairs on a line, on run-in sheets");
+    print_table(series, plans_of_production(), 1, tally, |cell| {
+        count(cell, true)
     });
     println!("  {} pairs, each parted in either size", series.pairs.len());
 }
@@ -266,12 +357,29 @@ pub fn print_exact(series: &LineSeries, tally: &mut Tally) {
             }
         }
     }
+    print_twins(series, tally);
+}
+
+/// Every series of production that is exact to a unit of W has a twin with run-in values.
+fn print_twins(series: &LineSeries, tally: &mut Tally) {
+    let of_production = series.exact.iter().filter(|exact| exact.cell.plan != 4);
+    let mut twins = 0;
+    for exact in of_production {
+        let Exact { cell, stand, .. } = exact;
+        twins += exact.run_in_twins.len();
+        if exact.run_in_twins.len() < exact.series.len() {
+            tally.gap(&format!(
+                "a run-in twin of each series, {cell:?}, {stand:?}"
+            ));
+        }
+    }
+    println!("{twins} of these series on run-in sheets too");
 }
 
 fn count_exact(series: &LineSeries, cell: Cell, stand: Stand) -> usize {
     let exact = series.exact.iter();
-    let exact = exact.filter(|(at, how, _)| (*at, *how) == (cell, stand));
-    exact.map(|(_, _, found)| found.len()).sum()
+    let exact = exact.filter(|exact| (exact.cell, exact.stand) == (cell, stand));
+    exact.map(|exact| exact.series.len()).sum()
 }
 
 /// A line for each row of the plans, with the counts of its cells, which have to be at least so

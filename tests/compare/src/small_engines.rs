@@ -5,11 +5,12 @@
 
 use crate::calendar::with_days;
 use crate::cases::refused;
-use crate::draft::{numbers_in, plans_of_small_engines, stop_record};
+use crate::draft::{numbers_in, plans_of_production, stop_record};
 use crate::draft::{Draft, Pollutant, SmallEngine, PARTICULATES, SMALL};
-use crate::paper::{Chosen, Report, Reported};
+use crate::kinds::{another_at, draft, pass_of, records, stopped_at, Faults};
+use crate::paper::{Chosen, Reported};
 use random::Random;
-use second::{Document, Document01, LONGEST_REPORT, MOST_POLLUTANTS};
+use second::{Document, Document01};
 
 /// An engine that is not one of the rule: its limit is 150.
 const OTHER: SmallEngine = SmallEngine {
@@ -20,40 +21,9 @@ const OTHER: SmallEngine = SmallEngine {
 /// The limits of the rule.
 const LIMITS: [u32; 2] = [150, 250];
 
-/// Of one pollutant, with so many engines at 140.
-fn draft(size: usize, plan: u8, number: u8, limit: u32, engines: usize) -> Draft {
-    let deviation = if plan == 1 { 500_000 } else { 0 };
-    let pollutant = Pollutant {
-        number,
-        limit,
-        deviation,
-    };
-    let mut draft = Draft::new(size, plan, vec![pollutant]);
-    let mut measurements = [0; MOST_POLLUTANTS];
-    measurements[usize::from(number) - 1] = 140;
-    for _ in 0..engines {
-        draft.test(measurements, 0);
-    }
-    draft
-}
-
-/// Verdict, ground and engine, and no pollutant decided.
-fn report(verdict: u8, ground: u8, engine: u8) -> Report {
-    let mut report = [0; LONGEST_REPORT];
-    report[..4].copy_from_slice(&[16, verdict, ground, engine]);
-    report
-}
-
-/// "Pollutants and no engine: another at 0".
-fn another_at_0() -> Reported {
-    (0, report(0, 0, 0))
-}
-
 /// Particulates pass at 4 by a row.
 fn pass_at_4() -> Reported {
-    let mut report = report(1, 1, 4);
-    report[10..12].copy_from_slice(&[1, 4]);
-    (0, report)
+    pass_of(PARTICULATES, 4)
 }
 
 /// All but the sweeps.
@@ -98,22 +68,6 @@ fn examples(size: usize) -> Vec<Chosen> {
     sheets
 }
 
-/// A record by its kind: pollutant 1, an engine, a stop or a small engine, or zeros behind a kind that
-/// is none.
-fn record(size: usize, plan: u8, kind: u8) -> Vec<u8> {
-    match kind {
-        1 => draft(size, plan, 1, 200, 0).bytes(),
-        2 => draft(size, plan, 1, 200, 1).bytes().split_off(size),
-        3 => stop_record(size),
-        5 => SMALL.record(size),
-        _ => {
-            let mut record = vec![0; size];
-            record[0] = kind;
-            record
-        }
-    }
-}
-
 /// The records of a sheet by their kinds, and by which number and which of them it is refused, under
 /// each plan but 4.
 const PLACES: [(&[u8], u8, u8); 15] = [
@@ -122,7 +76,7 @@ const PLACES: [(&[u8], u8, u8); 15] = [
     (&[4], 2, 0),
     (&[1, 4], 2, 1),
     (&[1, 5, 4], 2, 2),
-    (&[1, 5, 6], 2, 2),
+    (&[1, 5, 7], 2, 2),
     (&[1, 5, 1], 3, 2),
     (&[1, 5, 2, 1], 3, 3),
     (&[1, 3, 5], 3, 2),
@@ -136,23 +90,20 @@ const PLACES: [(&[u8], u8, u8); 15] = [
 
 fn places(size: usize) -> Vec<Chosen> {
     let mut sheets = Vec::new();
-    for plan in plans_of_small_engines() {
+    for plan in plans_of_production() {
         for (kinds, number, at) in PLACES {
-            let records = kinds.iter().map(|&kind| record(size, plan, kind));
             sheets.push(Chosen {
-                sheet: records.flatten().collect(),
+                sheet: records(size, plan, kinds),
                 reported: refused(size, number, at),
             });
         }
-        let open = [1, 5, 2].map(|kind| record(size, plan, kind)).concat();
-        sheets.push(Chosen {
-            reported: (0, report(0, 0, 1)),
-            sheet: open.clone(),
-        });
-        sheets.push(Chosen {
-            reported: (0, report(2, 3, 1)),
-            sheet: [open, stop_record(size)].concat(),
-        });
+        for (kinds, reported) in [
+            (&[1, 5, 2][..], another_at(1)),
+            (&[1, 5, 2, 3], stopped_at(1)),
+        ] {
+            let sheet = records(size, plan, kinds);
+            sheets.push(Chosen { sheet, reported });
+        }
     }
     sheets
 }
@@ -161,44 +112,25 @@ fn places(size: usize) -> Vec<Chosen> {
 /// refusals.
 const FAULTS: [u8; 4] = [16, 17, 18, 12];
 
-/// Some of them.
-#[derive(Clone, Copy)]
-struct Faults(usize);
-
-impl Faults {
-    fn all() -> impl Iterator<Item = Faults> {
-        (0..1 << FAULTS.len()).map(Faults)
+/// The limit of particulates: 250 is the rule's.
+fn limit(faults: Faults) -> u32 {
+    if faults.have(18) {
+        150
+    } else {
+        250
     }
+}
 
-    fn first(self) -> Option<u8> {
-        FAULTS.into_iter().find(|&number| self.have(number))
-    }
-
-    fn have(self, number: u8) -> bool {
-        let place = FAULTS.iter().position(|&fault| fault == number);
-        place.is_some_and(|place| self.0 >> place & 1 == 1)
-    }
-
-    /// The limit of particulates: 250 is the rule's.
-    fn limit(self) -> u32 {
-        if self.have(18) {
-            150
-        } else {
-            250
-        }
-    }
-
-    /// The record, all but its place.
-    fn record(self, size: usize) -> Vec<u8> {
-        let date = if self.have(17) {
-            19_980_900
-        } else {
-            19_980_930
-        };
-        let mut record = SmallEngine { date, ..SMALL }.record(size);
-        record[size - 1] = u8::from(self.have(12));
-        record
-    }
+/// The record, all but its place.
+fn faulty(size: usize, faults: Faults) -> Vec<u8> {
+    let date = if faults.have(17) {
+        19_980_900
+    } else {
+        19_980_930
+    };
+    let mut record = SmallEngine { date, ..SMALL }.record(size);
+    record[size - 1] = u8::from(faults.have(12));
+    record
 }
 
 /// A plan, and the records between the pollutant and the faulty one.
@@ -220,23 +152,21 @@ fn elsewhere(size: usize, limit: u32) -> [Elsewhere; 4] {
 /// Every fault beside every other.
 fn orders(size: usize) -> Vec<Chosen> {
     let mut sheets = Vec::new();
-    for faults in Faults::all() {
-        let limit = faults.limit();
+    for faults in Faults::all(&FAULTS) {
+        let limit = limit(faults);
         let places: Vec<Elsewhere> = if faults.have(16) {
             elsewhere(size, limit).into()
         } else {
-            plans_of_small_engines()
-                .map(|plan| (plan, vec![]))
-                .collect()
+            plans_of_production().map(|plan| (plan, vec![])).collect()
         };
         for (plan, between) in places {
             let pollutant = draft(size, plan, PARTICULATES, limit, 0).bytes();
             let at = 1 + (between.len() / size) as u8;
             sheets.push(Chosen {
-                sheet: [pollutant, between, faults.record(size)].concat(),
+                sheet: [pollutant, between, faulty(size, faults)].concat(),
                 reported: match faults.first() {
                     Some(number) => refused(size, number, at),
-                    None => another_at_0(),
+                    None => another_at(0),
                 },
             });
         }
@@ -247,10 +177,10 @@ fn orders(size: usize) -> Vec<Chosen> {
 /// First, or after a stop: 3, whatever else.
 fn before_3(size: usize) -> Vec<Chosen> {
     let mut sheets = Vec::new();
-    for faults in Faults::all() {
-        let record = faults.record(size);
+    for faults in Faults::all(&FAULTS) {
+        let record = faulty(size, faults);
         let stopped = [
-            draft(size, 3, PARTICULATES, faults.limit(), 0).bytes(),
+            draft(size, 3, PARTICULATES, limit(faults), 0).bytes(),
             stop_record(size),
         ];
         for before in [vec![], stopped.concat()] {
@@ -275,7 +205,7 @@ fn lines_of_the_rule(size: usize) -> Vec<Chosen> {
                     speed,
                     date,
                 };
-                for plan in plans_of_small_engines() {
+                for plan in plans_of_production() {
                     sheets.extend(under_both_limits(size, plan, small_engine));
                 }
             }
@@ -291,7 +221,7 @@ fn ruled(size: usize, plan: u8, limit: u32, small_engine: SmallEngine) -> Chosen
     Chosen {
         sheet: draft.bytes(),
         reported: if limit == small_engine.particulate_limit() {
-            another_at_0()
+            another_at(0)
         } else {
             refused(size, 18, 1)
         },
@@ -342,7 +272,7 @@ fn several(size: usize, other: u32, small_engine: SmallEngine) -> Vec<Chosen> {
                 reported: if asked && particulates != rule {
                     refused(size, 18, at)
                 } else {
-                    another_at_0()
+                    another_at(0)
                 },
             });
         }

@@ -1,5 +1,5 @@
-//! What a corpus of chosen and random sheets leaves out: every logarithm and every cause, each
-//! through report, with the report that has to be written.
+//! What a corpus of chosen and random sheets leaves out: every logarithm, on run-in sheets too, and
+//! every cause, each through report, with the report that has to be written.
 
 use crate::draft::{Draft, Measurements, Pollutant, LARGEST};
 use crate::paper::{Cell, Chosen, Line, Paper, Report};
@@ -12,52 +12,93 @@ use std::ops::RangeInclusive;
 /// A unit of T is 693,147,181, and a unit of t is A x 1,048,576 or |B| x 1,048,576, which is 5 or 7
 /// times as much. So the deviation alone can't put every T on a line, and the third engine does it:
 /// on the first sheet |T| is the least whole number that decides, and on the second, where g of the
-/// third measurement is another by one, it is one unit less. The limits, the deviations and the
-/// first two engines are the same on both. So a g of theirs that is off by one changes a report:
-/// the first if |T| gets smaller by it, and the second if |T| gets larger. Should a limit also be
-/// measured, its g counts three times in T, and no more than twice the other way.
+/// third measurement is another by one, it is one unit less. The limits, the deviations, the run-in
+/// values and the first two engines are the same on both. So a g of theirs that is off by one
+/// changes a report: the first if |T| gets smaller by it, and the second if |T| gets larger. Should
+/// a number stand in several places, its g does not cancel out: a limit's counts three times in T,
+/// and no more than twice the other way; on a run-in sheet the limit's three times and that of x_1
+/// twice, and the other way the run-in value's three times and each other engine's once.
 pub struct LogarithmTrial {
-    pub limits: Vec<u32>,
-    /// What the first two engines measure.
-    pub measurements: Vec<[u32; 2]>,
+    pub begun: Vec<Begun>,
     pub sheets: [Chosen; 2],
 }
 
-/// Every m that can be measured is a limit, and a measurement of the first two engines; or one part
-/// of `step` of the trials.
+/// One pollutant of a trial, all but the third engine and the deviation.
+#[derive(Clone, Copy)]
+pub struct Begun {
+    pub limit: u32,
+    pub run_in: Option<u32>,
+    pub first_two: [u32; 2],
+}
+
+/// Which trials there are: a pollutant for each m that can be measured.
+#[derive(Clone, Copy)]
+pub enum Sweep {
+    /// Every m is a limit, and a measurement of the first two engines.
+    Plain,
+    /// Every m is a run-in value, and what the run-in engine measured before.
+    RunIn,
+}
+
+impl Sweep {
+    fn begun(self, m: u32) -> Begun {
+        match self {
+            Sweep::Plain => Begun {
+                limit: m,
+                run_in: None,
+                first_two: first_two(m),
+            },
+            // About twice the limit, and so nearly unchanged by running-in.
+            Sweep::RunIn => Begun {
+                limit: m.div_ceil(2),
+                run_in: Some(m),
+                first_two: [neighbour(m), m],
+            },
+        }
+    }
+}
+
+/// All trials, or one part of `step` of them.
 pub fn logarithm_trials(
     paper: &Paper,
+    sweep: Sweep,
     size: usize,
     step: usize,
 ) -> impl Iterator<Item = LogarithmTrial> {
-    trials(paper, size, limits(size).step_by(step))
+    trials(paper, sweep, size, several(size).step_by(step))
 }
 
-/// Those of all trials that have m for a limit or for a measurement of the first two engines.
+/// Those of all trials that have m in a place that is gone through.
 pub fn logarithm_trials_with(
     paper: &Paper,
+    sweep: Sweep,
     size: usize,
     m: u32,
 ) -> impl Iterator<Item = LogarithmTrial> {
-    let has_m = move |limit| limit == m || first_two(limit).contains(&m);
-    let limits = limits(size).filter(move |limits| limits.clone().any(has_m));
-    trials(paper, size, limits)
+    let has_m = move |number| {
+        let begun = sweep.begun(number);
+        let measured = begun.first_two.into_iter().chain(begun.run_in);
+        measured.chain([begun.limit]).any(|place| place == m)
+    };
+    let ranges = several(size).filter(move |numbers| numbers.clone().any(has_m));
+    trials(paper, sweep, size, ranges)
 }
 
 fn trials(
     paper: &Paper,
+    sweep: Sweep,
     size: usize,
-    limits: impl Iterator<Item = RangeInclusive<u32>>,
+    ranges: impl Iterator<Item = RangeInclusive<u32>>,
 ) -> impl Iterator<Item = LogarithmTrial> {
     let lines = RowThree::new(paper);
-    limits.map(move |limits| {
-        let pollutants: Vec<OnLine> = limits.map(|limit| lines.pollutant(limit)).collect();
+    ranges.map(move |numbers| {
+        let pollutants: Vec<OnLine> = numbers.map(|m| lines.pollutant(sweep.begun(m))).collect();
         trial(size, &pollutants)
     })
 }
 
-/// As many limits as a sheet has pollutants, one after the other. The last overlap those before.
-fn limits(size: usize) -> impl Iterator<Item = RangeInclusive<u32>> {
+/// As many numbers as a sheet has pollutants, one after the other. The last overlap those before.
+fn several(size: usize) -> impl Iterator<Item = RangeInclusive<u32>> {
     let more = Document01.pollutants(size) as u32 - 1;
     let first = (1..=LARGEST).step_by(more as usize + 1);
     first.map(move |first| {
@@ -69,11 +110,7 @@ fn limits(size: usize) -> impl Iterator<Item = RangeInclusive<u32>> {
 fn trial(size: usize, pollutants: &[OnLine]) -> LogarithmTrial {
     let decisions = pollutants.iter().map(|pollutant| pollutant.decision);
     LogarithmTrial {
-        limits: pollutants.iter().map(|pollutant| pollutant.limit).collect(),
-        measurements: pollutants
-            .iter()
-            .map(|pollutant| pollutant.first_two)
-            .collect(),
+        begun: pollutants.iter().map(|pollutant| pollutant.begun).collect(),
         sheets: [
             Chosen {
                 sheet: sheet(size, pollutants, |pollutant| pollutant.deciding),
@@ -90,30 +127,34 @@ fn trial(size: usize, pollutants: &[OnLine]) -> LogarithmTrial {
 fn sheet(size: usize, pollutants: &[OnLine], third: fn(&OnLine) -> u32) -> Vec<u8> {
     let declared = (1..).zip(pollutants).map(|(number, on_line)| Pollutant {
         number,
-        limit: on_line.limit,
+        limit: on_line.begun.limit,
         deviation: on_line.deviation,
     });
     let mut draft = Draft::new(size, 1, declared.collect());
-    let measured: [fn(&OnLine) -> u32; 3] = [
-        |pollutant| pollutant.first_two[0],
-        |pollutant| pollutant.first_two[1],
-        third,
-    ];
-    for measured in measured {
-        let mut measurements = [0; MOST_POLLUTANTS];
-        for (measurement, pollutant) in measurements.iter_mut().zip(pollutants) {
-            *measurement = measured(pollutant);
-        }
-        draft.test(measurements, 0);
+    draft.run_in = measured(pollutants, |pollutant| pollutant.begun.run_in);
+    for place in 0..3 {
+        let measurements = measured(pollutants, |pollutant| {
+            let [first, second] = pollutant.begun.first_two;
+            Some([first, second, third(pollutant)][place])
+        });
+        draft.test(measurements.expect("every pollutant is measured"), 0);
     }
     draft.bytes()
 }
 
+/// What is measured of each pollutant; none if there is nothing.
+fn measured(pollutants: &[OnLine], x: impl Fn(&OnLine) -> Option<u32>) -> Option<Measurements> {
+    let mut measurements = [0; MOST_POLLUTANTS];
+    for (measurement, pollutant) in measurements.iter_mut().zip(pollutants) {
+        *measurement = x(pollutant)?;
+    }
+    Some(measurements)
+}
+
 /// A pollutant with what three engines measure.
 struct OnLine {
-    limit: u32,
+    begun: Begun,
     deviation: u32,
-    first_two: [u32; 2],
     /// The third measurement with which the pollutant decides, and how it does.
     deciding: u32,
     decision: Decision,
@@ -158,10 +199,15 @@ impl RowThree {
 
     /// By the rule "T x 693,147,181 > A x t x" 1,048,576, or with |T| and |B|. The two sides are
     /// never equal, so that the least |T| that decides is the quotient rounded down, and one more.
-    fn pollutant(&self, limit: u32) -> OnLine {
+    fn pollutant(&self, begun: Begun) -> OnLine {
         let g = |m| Document01.g(m);
-        let first_two = first_two(limit);
-        let t = 3 * g(limit) - first_two.map(g).iter().sum::<i64>() - g(THIRD);
+        let Begun {
+            limit,
+            run_in,
+            first_two,
+        } = begun;
+        let shift = run_in.map_or(0, |value| g(value) - g(first_two[0]));
+        let t = 3 * (g(limit) - shift) - first_two.map(g).iter().sum::<i64>() - g(THIRD);
         let (number, decision) = if t > 0 {
             (self.pass, Decision::Pass)
         } else {
@@ -171,9 +217,8 @@ impl RowThree {
         let deviation = t.abs() * 693_147_181 / unit;
         let least = deviation * unit / 693_147_181 + 1;
         OnLine {
-            limit,
+            begun,
             deviation: deviation as u32,
-            first_two,
             deciding: self.third_with(t, least),
             decision,
             beyond: self.third_with(t, least - 1),
@@ -193,6 +238,15 @@ fn first_two(limit: u32) -> [u32; 2] {
         [2 * limit - 1, LARGEST.min(2 * limit)]
     } else {
         [limit / 2, limit / 2 + 1]
+    }
+}
+
+/// The number that an odd m is one less than, and an even m one more; of the largest m itself.
+fn neighbour(m: u32) -> u32 {
+    if m.is_multiple_of(2) {
+        m - 1
+    } else {
+        LARGEST.min(m + 1)
     }
 }
 

@@ -20,6 +20,8 @@ pub(crate) const ENGINE: u8 = 2;
 pub(crate) const STOP: u8 = 3;
 /// "Record kind 5" (F-1).
 pub(crate) const SMALL_ENGINE: u8 = 5;
+/// "Record kind 6" (F-2).
+pub(crate) const RUN_IN: u8 = 6;
 
 /// "It returns number and record counted from 0".
 #[derive(Clone, Copy, Debug, PartialEq, Eq)]
@@ -49,10 +51,11 @@ pub struct Series<'a> {
     pub limits: [u32; MOST_POLLUTANTS],
     pub deviations: [u32; MOST_POLLUTANTS],
     pub highest_pollutant: u8,
-    /// How many pollutant records open the sheet; how many small engines, of which one is allowed,
-    /// and how many engines follow them.
+    /// How many pollutant records open the sheet; how many small engines and how many records of
+    /// run-in values, of which one each is allowed, and how many engines follow them.
     pub declared: usize,
     pub small_engines: usize,
+    pub run_ins: usize,
     pub tested: usize,
     pub stopped: bool,
     pub(crate) sheet: &'a [u8],
@@ -68,6 +71,7 @@ impl<'a> Series<'a> {
             highest_pollutant: 0,
             declared: 0,
             small_engines: 0,
+            run_ins: 0,
             tested: 0,
             stopped: false,
             sheet,
@@ -87,9 +91,17 @@ impl<'a> Series<'a> {
             .filter(|record| document.is_engine(record[0]))
     }
 
+    /// The record of run-in values, on a run-in sheet.
+    pub(crate) fn run_in_record(&self) -> Option<&'a Record> {
+        if self.run_ins == 0 {
+            return None;
+        }
+        self.records().find(|record| record[0] == RUN_IN)
+    }
+
     /// Whether there is a record of another kind than 1.
     pub(crate) fn has_other_kinds(&self) -> bool {
-        self.small_engines > 0 || self.tested > 0 || self.stopped
+        self.small_engines > 0 || self.run_ins > 0 || self.tested > 0 || self.stopped
     }
 
     fn take<D: Document + ?Sized>(&mut self, document: &D, record: &Record) {
@@ -104,6 +116,7 @@ impl<'a> Series<'a> {
                 self.declared += 1;
             }
             SMALL_ENGINE => self.small_engines += 1,
+            RUN_IN => self.run_ins += 1,
             ENGINE => {}
             _ => self.stopped = true,
         }

@@ -5,10 +5,11 @@
 //! "Callers name the size" (F-10).
 
 use crate::check::{number_at, short_at, Record, Refusal, Series};
-use crate::check::{ENGINE, POLLUTANT, SMALL_ENGINE, STOP};
+use crate::check::{ENGINE, POLLUTANT, RUN_IN, SMALL_ENGINE, STOP};
 use crate::check::{FOUR_POLLUTANTS, SIX_POLLUTANTS, SIZES};
 use crate::declared::{total, Approval};
-use crate::judge::{Decision, Ending, GrossEmitters, Ground, Judgement, Row, Verdict};
+use crate::judge::{Decision, Ending, GrossEmitters, Ground, Judgement, Verdict};
+use crate::judge::{Measured, Row, RunIn};
 use crate::operations::LONGEST_REPORT;
 use crate::tables::{self, Column};
 use std::borrow::Cow;
@@ -82,6 +83,22 @@ pub trait Document {
         self.g(m)
     }
 
+    /// "For a limit L, engine j has d_j = g(x_j) - g(L)"; and of F-2: "Each d_j becomes g(x_j) +
+    /// g(value) - g(x_1) - g(L)", d_1 like the others. Of the numbers themselves nothing is needed.
+    fn difference(&self, _numbers: Measured<u32>, logarithms: Measured<i64>) -> i64 {
+        let Measured { x, limit, .. } = logarithms;
+        match logarithms.run_in {
+            Some(RunIn { value, first }) => x + value - first - limit,
+            None => x - limit,
+        }
+    }
+
+    /// "d_j squared", of the same d_j.
+    fn difference_squared(&self, numbers: Measured<u32>, logarithms: Measured<i64>) -> i64 {
+        let d = self.difference(numbers, logarithms);
+        d * d
+    }
+
     /// "W = n x (sum of d_j squared) - D squared".
     fn w(&self, row: &Row) -> i128 {
         row.n as i128 * i128::from(row.squares) - i128::from(row.d) * i128::from(row.d)
@@ -89,16 +106,17 @@ pub trait Document {
 
     // ---- The sheet
 
-    /// "Records of 20 bytes, no header"; of F-1: "A sheet may hold 38 records"; and of F-10: "A
-    /// sheet of the new size holds two records more than the old maximum".
+    /// "Records of 20 bytes, no header"; of F-1: "A sheet may hold 38 records"; of F-2: "The record
+    /// limit rises by one"; and of F-10: "A sheet of the new size holds two records more than the
+    /// old maximum".
     fn most_records(&self, size: usize) -> usize {
         match size {
-            SIX_POLLUTANTS => 38 + 2,
-            _ => 38,
+            SIX_POLLUTANTS => 39 + 2,
+            _ => 39,
         }
     }
 
-    /// In bytes: 760, and 1,120 of the new size.
+    /// In bytes: 780, and 1,148 of the new size.
     fn longest_sheet(&self, size: usize) -> usize {
         self.most_records(size) * size
     }
@@ -167,6 +185,16 @@ pub trait Document {
     /// Kind 5 (F-1): "the others zero under refusal 12", to byte 19 or 27.
     fn small_engine_rest_is_zero(&self, record: &Record) -> bool {
         record[1] == 0 && all_zero(&record[6..8]) && all_zero(&record[12..])
+    }
+
+    /// Kind 6 (F-2): the values are "laid out as measurements". Pollutants count from 0 here.
+    fn run_in_value(&self, record: &Record, pollutant: usize) -> u32 {
+        self.measurement(record, pollutant)
+    }
+
+    /// Kind 6 (F-2): "bytes 1-3 are zero".
+    fn run_in_rest_is_zero(&self, record: &Record) -> bool {
+        all_zero(&record[1..4])
     }
 
     /// Limits are "1 to 9,999,999".
@@ -286,6 +314,20 @@ pub trait Document {
         date <= 19_980_930
     }
 
+    // ---- The run-in engine (document 02, F-2)
+
+    /// "Makers run in the first engine and correct the others (document 001, 8.1.1.2.2)": of a
+    /// pollutant the first engine's value after running-in, and what it measured before. Without an
+    /// engine there is nothing to correct.
+    fn run_in(&self, series: &Series, pollutant: usize) -> Option<RunIn<u32>> {
+        let values = series.run_in_record()?;
+        let first = series.engines(self).next()?;
+        Some(RunIn {
+            value: self.run_in_value(values, pollutant),
+            first: self.measurement(first, pollutant),
+        })
+    }
+
     // ---- Plans
 
     /// "The last row belongs to the plan: 32, 32, 19 and 15 engines", and for plan 5 "ending at 32"
@@ -400,9 +442,14 @@ pub trait Document {
         p >= 0 && p * p >= i128::from(b) * i128::from(b) * w
     }
 
-    /// Plan 3: "c = engines with x > L."
-    fn is_over(&self, x: u32, limit: u32) -> bool {
-        x > limit
+    /// Plan 3: "c = engines with x > L"; and of F-2: "attributes compare x_j x value with L x x_1".
+    /// The products have 47 binary digits at most.
+    fn is_over(&self, numbers: Measured<u32>) -> bool {
+        let [x, limit] = [numbers.x, numbers.limit].map(u64::from);
+        match numbers.run_in {
+            Some(RunIn { value, first }) => x * u64::from(value) > limit * u64::from(first),
+            None => x > limit,
+        }
     }
 
     /// Plan 4: "Before a row's statistics, in order: two gross emitters of equal cause among the
@@ -490,10 +537,10 @@ pub trait Document {
 
     // ---- Other operations
 
-    /// "Through the deciding engine's record": the pollutants, the small engine if there is one
-    /// (F-1), and the engines up to that one, in records.
+    /// "Through the deciding engine's record": the pollutants, the small engine (F-1) and the
+    /// run-in values (F-2) if there are any, and the engines up to that one, in records.
     fn records_through(&self, engine: u8, series: &Series) -> usize {
-        series.declared + series.small_engines + usize::from(engine)
+        series.declared + series.small_engines + series.run_ins + usize::from(engine)
     }
 
     /// "Evidence hands back the part of the sheet from its start through the deciding engine's
@@ -563,15 +610,15 @@ pub trait Document {
         }
     }
 
-    /// "1, no bytes, a length not a multiple of 20, or over" 760 "bytes": F-1's 38 records; and of
-    /// F-10: "the checks of a sheet, by its size".
+    /// "1, no bytes, a length not a multiple of 20, or over" 780 "bytes": the 39 records of F-1 and
+    /// F-2; and of F-10: "the checks of a sheet, by its size".
     fn length_fits(&self, size: usize, length: usize) -> bool {
         length != 0 && length.is_multiple_of(size) && length <= self.longest_sheet(size)
     }
 
     /// "The first faulty record, and in it the" first "of": 2, 3, and what its kind can have. With
-    /// F-1, whose 16 is "after 3; 17 [..] after 16; 18 [..] after 17", they stand in the order 2, 3,
-    /// 16, 17, 18, 4 to 12.
+    /// F-1, whose 16 is "after 3; 17 [..] after 16; 18 [..] after 17", and F-2, whose 19 is "after
+    /// 18", they stand in the order 2, 3, 16, 17, 18, 19, 4 to 12.
     fn fault(&self, record: &Record, so_far: &Series) -> Option<u8> {
         if !self.kind_fits(record[0]) {
             Some(2)
@@ -582,14 +629,15 @@ pub trait Document {
                 POLLUTANT => self.pollutant_fault(record, so_far),
                 ENGINE => self.engine_fault(record, so_far),
                 SMALL_ENGINE => self.small_engine_fault(record, so_far),
+                RUN_IN => self.run_in_fault(record, so_far),
                 _ => self.stop_fault(record, so_far),
             }
         }
     }
 
-    /// "2, kind not 1 to 3"; and of F-1: "Add record kind 5".
+    /// "2, kind not 1 to 3"; of F-1: "Add record kind 5"; and of F-2: "Record kind 6".
     fn kind_fits(&self, kind: u8) -> bool {
-        [POLLUTANT, ENGINE, STOP, SMALL_ENGINE].contains(&kind)
+        [POLLUTANT, ENGINE, STOP, SMALL_ENGINE, RUN_IN].contains(&kind)
     }
 
     /// "3, first record not kind 1, kind 1 after another kind, or anything after kind 3".
@@ -634,6 +682,47 @@ pub trait Document {
     fn particulate_limit_fits(&self, record: &Record, so_far: &Series) -> bool {
         let limit = so_far.limits[PARTICULATES];
         limit == 0 || limit == self.particulate_limit(record)
+    }
+
+    /// F-2: "19, [..] after 18"; and behind it "refusals 8 and 12 read it as they read an engine".
+    fn run_in_fault(&self, record: &Record, so_far: &Series) -> Option<u8> {
+        if !self.run_in_place_fits(so_far) {
+            Some(19)
+        } else if !self.run_in_values_fit(record, so_far) {
+            Some(8)
+        } else if !self.run_in_rest_is_zero(record) {
+            Some(12)
+        } else {
+            None
+        }
+    }
+
+    /// "19, a second kind 6, one after an engine or in plan 4".
+    fn run_in_place_fits(&self, so_far: &Series) -> bool {
+        self.is_first_run_in(so_far)
+            && self.precedes_engines(so_far)
+            && self.has_run_in(so_far.plan)
+    }
+
+    /// Not "a second kind 6".
+    fn is_first_run_in(&self, so_far: &Series) -> bool {
+        so_far.run_ins == 0
+    }
+
+    /// "Before the first engine": not "after an engine".
+    fn precedes_engines(&self, so_far: &Series) -> bool {
+        so_far.tested == 0
+    }
+
+    /// Not "in plan 4".
+    fn has_run_in(&self, plan: u8) -> bool {
+        plan != 4
+    }
+
+    /// "8, measurement, also one not zero of an undeclared pollutant", read "as they read an
+    /// engine".
+    fn run_in_values_fit(&self, record: &Record, so_far: &Series) -> bool {
+        self.measurements_fit(record, so_far)
     }
 
     /// The lowest of "4 [..]; 5 [..]; 6, limit out of range; 7, deviation; [..] 12, another byte
@@ -765,7 +854,7 @@ pub trait Document {
         refusal
     }
 
-    /// "1 to 12 for the joined sheet", and F-1's with them.
+    /// "1 to 12 for the joined sheet", and those of F-1 and F-2 with them.
     fn refusal_of_joined_sheet(&self, refusal: Option<Refusal>) -> Option<Refusal> {
         refusal
     }

@@ -59,10 +59,33 @@ pub struct Row {
     pub c: i64,
 }
 
-/// One declared pollutant: its limit and the running sums over the engines so far.
+/// Of one pollutant on a run-in sheet (F-2): "the first engine's" value "after running-in", and
+/// x_1, what it measured before. As numbers, or as their logarithms.
+#[derive(Clone, Copy)]
+pub struct RunIn<T> {
+    pub value: T,
+    pub first: T,
+}
+
+/// What an engine measured of one pollutant, and what that is held against. As numbers, or as their
+/// logarithms.
+#[derive(Clone, Copy)]
+pub struct Measured<T> {
+    /// j, counted from 1.
+    pub engine: usize,
+    pub x: T,
+    pub limit: T,
+    /// None but on a run-in sheet.
+    pub run_in: Option<RunIn<T>>,
+}
+
+/// One declared pollutant: what its measurements are held against, and the running sums over the
+/// engines so far. The logarithms are 0 in plan 3, which takes none.
 struct Standing {
     limit: u32,
     limit_logarithm: i64,
+    run_in: Option<RunIn<u32>>,
+    run_in_logarithms: Option<RunIn<i64>>,
     deviation: u32,
     decision: Decision,
     engine: u8,
@@ -97,11 +120,8 @@ pub(crate) fn walk<D: Document + ?Sized>(document: &D, series: &Series) -> Judge
     for (n, engine) in (1..).zip(series.engines(document)) {
         for (pollutant, standing) in standings.iter_mut().enumerate() {
             if let Some(standing) = standing {
-                standing.add(
-                    document,
-                    series.plan,
-                    document.measurement(engine, pollutant),
-                );
+                let x = document.measurement(engine, pollutant);
+                standing.add(document, series.plan, n, x);
             }
         }
         gross.add(document, engine);
@@ -187,34 +207,54 @@ fn statistics<D: Document + ?Sized>(
 fn open_standings<D: Document + ?Sized>(document: &D, series: &Series) -> Standings {
     std::array::from_fn(|pollutant| {
         let limit = series.limits[pollutant];
-        document.is_judged(pollutant, limit).then(|| Standing {
-            limit,
-            limit_logarithm: match series.plan {
+        document.is_judged(pollutant, limit).then(|| {
+            let logarithm = |m| match series.plan {
                 3 => 0,
-                plan => document.g_under(plan, limit),
-            },
-            deviation: series.deviations[pollutant],
-            decision: Decision::Open,
-            engine: 0,
-            d: 0,
-            squares: 0,
-            c: 0,
+                plan => document.g_under(plan, m),
+            };
+            let run_in = document.run_in(series, pollutant);
+            Standing {
+                limit,
+                limit_logarithm: logarithm(limit),
+                run_in,
+                run_in_logarithms: run_in.map(|RunIn { value, first }| RunIn {
+                    value: logarithm(value),
+                    first: logarithm(first),
+                }),
+                deviation: series.deviations[pollutant],
+                decision: Decision::Open,
+                engine: 0,
+                d: 0,
+                squares: 0,
+                c: 0,
+            }
         })
     })
 }
 
 impl Standing {
-    /// Adds one engine's measurement x to the sums its plan needs: "d_j = g(x_j) - g(L)".
-    fn add<D: Document + ?Sized>(&mut self, document: &D, plan: u8, x: u32) {
+    /// Adds what one engine measured to the sums that its plan needs.
+    fn add<D: Document + ?Sized>(&mut self, document: &D, plan: u8, engine: usize, x: u32) {
         if !document.is_looked_at(self.decision) {
             return;
         }
+        let numbers = Measured {
+            engine,
+            x,
+            limit: self.limit,
+            run_in: self.run_in,
+        };
         if plan == 3 {
-            self.c += i64::from(document.is_over(x, self.limit));
+            self.c += i64::from(document.is_over(numbers));
         } else {
-            let d = document.g_under(plan, x) - self.limit_logarithm;
-            self.d += d;
-            self.squares += d * d;
+            let logarithms = Measured {
+                engine,
+                x: document.g_under(plan, x),
+                limit: self.limit_logarithm,
+                run_in: self.run_in_logarithms,
+            };
+            self.d += document.difference(numbers, logarithms);
+            self.squares += document.difference_squared(numbers, logarithms);
         }
     }
 

@@ -1,6 +1,7 @@
 //! "A sheet under reading is the lent bytes and the number of the next record."
 
-use crate::check::{Record, ENGINE, MOST_POLLUTANTS, POLLUTANT, SMALL_ENGINE, STOP};
+use crate::check::{Record, MOST_POLLUTANTS};
+use crate::check::{ENGINE, POLLUTANT, RUN_IN, SMALL_ENGINE, STOP};
 use crate::document::Document;
 use std::borrow::Cow;
 
@@ -31,6 +32,11 @@ pub enum Step {
         volume: u16,
         speed: u16,
         date: u32,
+    },
+    /// Without a cause, which a record of run-in values has no place for.
+    RunIn {
+        /// As an engine's measurements.
+        values: [u32; MOST_POLLUTANTS],
     },
     Other {
         kind: u8,
@@ -91,6 +97,9 @@ impl<'a, D: Document + ?Sized> Reader<'a, D> {
                 volume: self.document.volume(record),
                 speed: self.document.speed(record),
                 date: self.document.date(record),
+            },
+            RUN_IN => Step::RunIn {
+                values: std::array::from_fn(|p| self.document.run_in_value(record, p)),
             },
             kind => Step::Other { kind },
         }

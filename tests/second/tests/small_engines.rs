@@ -3,9 +3,9 @@
 
 mod records;
 
-use records::{engine, fullest, judged, pollutant, refused, small_engine, stop};
+use records::{appended, engine, fullest, judged, pollutant, refused, small_engine, stop};
 use records::{Sheets, UNWRITTEN};
-use second::{append, convert, evidence, judge, lines, report};
+use second::{convert, evidence, judge, lines, report};
 use second::{Decision, Document, Document01};
 use second::{Ground, Judgement, Reader, Refusal, Step, Verdict};
 use second::{FOUR_POLLUTANTS, SIX_POLLUTANTS, SIZES};
@@ -242,7 +242,7 @@ fn places() {
             (&[4], 2, 0),
             (&[1, 4], 2, 1),
             (&[1, 5, 4], 2, 2),
-            (&[1, 5, 6], 2, 2),
+            (&[1, 5, 7], 2, 2),
         ] {
             assert_eq!(kinds(plan, records), refused(number, at), "{records:?}");
         }
@@ -315,8 +315,8 @@ fn bytes_without_a_field() {
     }
 }
 
-/// "A sheet may hold 38 records", and with F-10 one of the new size 40. Without kind 5 so many are
-/// refused by a record, never 1.
+/// "A sheet may hold 38 records", with F-2 one more, and with F-10 one of the new size two more.
+/// Without kind 5 so many are refused by a record, never 1.
 #[test]
 fn most_records() {
     for (size, numbers) in SIZES
@@ -324,23 +324,22 @@ fn most_records() {
         .zip([&[1, 2, 3, 4][..], &[1, 2, 3, 4, 5, 6]])
     {
         let fullest = fullest(size, numbers);
-        let most = numbers.len() + 34;
+        let most = numbers.len() + 35;
         let part = |first: usize, records: usize| &fullest[first * size..][..records * size];
         let pollutants = part(0, numbers.len());
-        let small_engine = part(numbers.len(), 1);
-        let (engine, engines) = (part(most - 2, 1), part(most - 33, 32));
+        let (engine, run_in_engines) = (part(most - 2, 1), part(most - 34, 33));
         let stop = part(most - 1, 1);
-        let judged = |records: [&[u8]; 4]| {
-            let sheet = records.concat();
+        let without = |behind: [&[u8]; 2]| {
+            let sheet = [pollutants, run_in_engines, &behind.concat()].concat();
             assert_eq!(sheet.len(), most * size);
             judge(&Document01, size, &sheet)
         };
         let last = most as u8 - 1;
-        assert!(judged([pollutants, small_engine, engines, stop]).is_ok());
-        assert_eq!(judged([pollutants, engines, stop, stop]), refused(3, last));
-        let too_many = refused(10, last - 1);
-        assert_eq!(judged([pollutants, engines, engine, stop]), too_many);
-        assert_eq!(judged([pollutants, engines, engine, engine]), too_many);
+        assert_eq!(fullest.len(), most * size);
+        assert!(judge(&Document01, size, &fullest).is_ok());
+        assert_eq!(without([stop, stop]), refused(3, last));
+        assert_eq!(without([engine, stop]), refused(10, last - 1));
+        assert_eq!(without([engine, engine]), refused(10, last - 1));
     }
 }
 
@@ -372,19 +371,6 @@ fn evidence_with_a_small_engine() {
         let faulty = four_engines(size, 150, SMALL);
         assert_eq!(evidence(&Document01, size, &faulty), refused(18, 1));
     }
-}
-
-/// The answer; on success the record stands behind the sheet, and else nothing was written.
-fn appended(size: usize, sheet: &[u8], record: &[u8]) -> Result<(), Refusal> {
-    let mut buffer = [sheet, &vec![UNWRITTEN; size + 1]].concat();
-    let before = buffer.clone();
-    let answer = append(&Document01, size, &mut buffer, sheet.len(), record);
-    let after = match answer {
-        Ok(()) => [sheet, record, &[UNWRITTEN]].concat(),
-        Err(_) => before,
-    };
-    assert_eq!(buffer, after);
-    answer
 }
 
 /// "Here and later, a sheet's new refusals stand with 1 to 12 in append": for the joined sheet.

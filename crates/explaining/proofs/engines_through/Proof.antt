@@ -3,7 +3,7 @@ use Rattle.arithmetic.proofs.Basics.{suc, _+_, _-_, _≤_, add-one, _≡_, refl
 use types.Run.{OneOf, miss}
 use denote.Enum.Declared.{tagOf}
 use Rattle.reading.specs.declared.Step.{Step}
-use Rattle.reading.specs.declared.Step.the-variants.{Pollutant, Engine, Stop, SmallEngine, Other, End}
+use Rattle.reading.specs.declared.Step.the-variants.{Pollutant, Engine, Stop, SmallEngine, RunIn, Other, End}
 use Rattle.reading.proofs.Step.{the-type}
 use Rattle.explaining.specs.Explanation.{isEngine, enginesIn}
 use Rattle.explaining.proofs.engines_through.Statement.{statement}
@@ -15,11 +15,12 @@ Inv-loop sheet «record» last engines₀ k₀ engines k = (k ≤ last + 1) × (
 abbrev μ-loop : tie.MeasureT-loop
 μ-loop sheet «record» last engines₀ k₀ engines k = last + 1 - k
 
-no-engine : (s : Step) → OneOf (0 ∷ 2 ∷ 3 ∷ 4 ∷ 5 ∷ []) (tagOf the-type s) → isEngine s ≡ 0
+no-engine : (s : Step) → OneOf (0 ∷ 2 ∷ 3 ∷ 4 ∷ 5 ∷ 6 ∷ []) (tagOf the-type s) → isEngine s ≡ 0
 no-engine (Pollutant number plan limit deviation) k = refl
-no-engine (Engine cause measurements) k = absurd (miss (0 ∷ 2 ∷ 3 ∷ 4 ∷ 5 ∷ []) 1 tt k)
+no-engine (Engine cause measurements) k = absurd (miss (0 ∷ 2 ∷ 3 ∷ 4 ∷ 5 ∷ 6 ∷ []) 1 tt k)
 no-engine Stop k = refl
 no-engine (SmallEngine volume speed date) k = refl
+no-engine (RunIn measurements) k = refl
 no-engine (Other kind) k = refl
 no-engine End k = refl
 

@@ -14,10 +14,10 @@ returns-2 c =
     let d = c .before in
     rw (d .before .before .enum-told .given .1) (at-most 20 (add-then (add-word (d .with-word2 .ensures)) (c .with-number2 .ensures)) (omega arith))
 
-returns-5 : tie.Need-returns-5
-returns-5 c =
+returns-6 : tie.Need-returns-6
+returns-6 c =
     let d = c .before in
-    rw (d .before .before .before .step2 .given .1) (at-most 20 (add-then (add-word (d .with-word5 .ensures)) (c .with-number3 .ensures)) (omega arith))
+    rw (d .before .before .before .step2 .given .1) (at-most 20 (add-then (add-word (d .with-word6 .ensures)) (c .with-number3 .ensures)) (omega arith))
 
 pub with-name-spec : {M : Type 1} → statement M
 with-name-spec =
@@ -27,10 +27,12 @@ with-name-spec =
     (λ c. search needs) (λ c. search needs) (λ c κs. search needs) (λ c κs. search needs)
     (λ c. search needs) (λ c. search needs) (λ c κs. search needs)
     (λ c. search needs) (λ c. search needs) (λ c κs. search needs)
+    (λ c. search needs) (λ c. search needs) (λ c κs. search needs)
     (λ c. search needs) (λ c. search needs) (λ c κs. search needs) (λ c κs. search needs)
     (λ c. search needs) (λ c. search needs) (λ c κs. search needs)
     returns returns-2
     (λ c. rw (c .before .before .enum-told2 .given .1) (at-most 20 (add-word (c .with-word3 .ensures)) (omega arith)))
     (λ c. rw (c .before .before .enum-told3 .given .1) (at-most 20 (add-word (c .with-word4 .ensures)) (omega arith)))
-    returns-5
-    (λ c. rw (c .before .before .enum-told4 .given .1) (at-most 20 (add-word (c .with-word6 .ensures)) (omega arith))))
+    (λ c. rw (c .before .before .enum-told4 .given .1) (at-most 20 (add-word (c .with-word5 .ensures)) (omega arith)))
+    returns-6
+    (λ c. rw (c .before .before .enum-told5 .given .1) (at-most 20 (add-word (c .with-word7 .ensures)) (omega arith))))

@@ -38,16 +38,16 @@ none-behind m (k means t ∷ others) h n l =
     let f = ltb-true k m (g .0) in
     rw (ne-eqb n k (λ z. omega arith)) (none-behind m others (g .1) n l)
 
--- the numbers 0 to 18
+-- the numbers 0 to 19
 abbrev placed : List (List ℕ)
-placed = words 19 0
+placed = words 20 0
 
 is-placed : (n : ℕ) → sentence n ≡ getD placed n []
 unfolding sentence
 is-placed n =
-    by-test (λ t. meaning sentences n ≡ getD placed n []) (ltb n 19)
-    (λ e. let z : n ≡ 0 + n = omega arith in ap (meaning sentences) z ∙ sym (words-at 19 0 n (ltb-true n 19 e)))
-    (λ e. let h = ltb-false n 19 e in none-behind 19 sentences refl n h ∙ sym (words-behind 19 0 n h))
+    by-test (λ t. meaning sentences n ≡ getD placed n []) (ltb n 20)
+    (λ e. let z : n ≡ 0 + n = omega arith in ap (meaning sentences) z ∙ sym (words-at 20 0 n (ltb-true n 20 e)))
+    (λ e. let h = ltb-false n 20 e in none-behind 20 sentences refl n h ∙ sym (words-behind 20 0 n h))
 
 -- ---- the text, a line each
 

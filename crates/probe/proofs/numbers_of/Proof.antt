@@ -7,10 +7,11 @@ pub numbers-of-spec : {M : Type 1} → statement M
 numbers-of-spec =
     tie.close
     (tie.spec
-    (λ c. search needs) (λ c. search needs) (λ c. search needs) (λ c. search needs) (λ c. search needs) (λ c. search needs)
+    (λ c. search needs) (λ c. search needs) (λ c. search needs) (λ c. search needs) (λ c. search needs) (λ c. search needs) (λ c. search needs)
     (λ c. rw (c .before .step .given .1))
     (λ c. rw (c .before .step2 .given .1))
     (λ c. search needs)
     (λ c. rw (c .before .step3 .given .1))
     (λ c. rw (c .before .step4 .given .1))
+    (λ c. rw (c .before .step5 .given .1))
     (λ c. search needs))

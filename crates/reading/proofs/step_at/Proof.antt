@@ -63,16 +63,12 @@ returns-3 c =
 returns-4 : tie.Need-returns-4
 unfolding stepOf
 returns-4 c =
-    let six = c .before in
-    let four = six .before .before in
-    let two = four .before .before in
-    let d = two .before .before in
+    let d = c .before .before in
     let k = d .before .before in
     rw (found (k .before))
     (skip-eq _ _ _ (k .kind-of .ensures .0) (d .before .if2 .left)
     (stop-eq _ _ _ (k .kind-of .ensures .0) (d .if3 .taken)
-    (rw (c .cause-of .ensures .0, six .measurement-of6 .ensures, six .before .measurement-of5 .ensures, four .measurement-of4 .ensures)
-    (rw (four .before .measurement-of3 .ensures, two .measurement-of2 .ensures, two .before .measurement-of .ensures)))))
+    (rw (c .measurements-of .ensures, c .before .cause-of .ensures .0))))
 
 returns-6 : tie.Need-returns-6
 unfolding stepOf
@@ -87,6 +83,19 @@ returns-6 c =
     (stop-eq _ _ _ (k .kind-of .ensures .0) (d .if5 .taken)
     (rw (c .date-of .ensures, c .before .speed-of .ensures .0, v .volume-of .ensures .0))))))
 
+returns-7 : tie.Need-returns-7
+unfolding stepOf
+returns-7 c =
+    let d = c .before in
+    let k = d .before .before .before .before .before in
+    rw (found (k .before))
+    (skip-eq _ _ _ (k .kind-of .ensures .0) (d .before .before .before .before .if2 .left)
+    (skip-eq _ _ _ (k .kind-of .ensures .0) (d .before .before .before .if3 .left)
+    (skip-eq _ _ _ (k .kind-of .ensures .0) (d .before .before .if4 .left)
+    (skip-eq _ _ _ (k .kind-of .ensures .0) (d .before .if5 .left)
+    (stop-eq _ _ _ (k .kind-of .ensures .0) (d .if6 .taken)
+    (rw (c .measurements-of2 .ensures)))))))
+
 pub step-at-spec : {M : Type 1} → statement M
 unfolding stepOf
 step-at-spec =
@@ -96,9 +105,11 @@ step-at-spec =
     (λ c κs. record { inside = whole-inside _ _ _ (inside c) })
     (λ c κs. search needs) (λ c κs. search needs) (λ c κs. search needs) (λ c κs. search needs) (λ c κs. search needs)
     returns-3
-    (λ c κs. search needs) (λ c κs. search needs) (λ c κs. search needs) (λ c κs. search needs) (λ c κs. search needs) (λ c κs. search needs) (λ c κs. search needs)
+    (λ c κs. search needs) (λ c κs. search needs)
     returns-4
     (λ c. rw (found (c .before .before .before .before)) (search chain depth 9))
     (λ c κs. search needs) (λ c κs. search needs) (λ c κs. search needs)
     returns-6
-    (λ c. rw (found (c .before .before .before .before .before)) (search chain depth 12)))
+    (λ c κs. search needs)
+    returns-7
+    (λ c. rw (found (c .before .before .before .before .before .before)) (search chain depth 12)))

@@ -4,7 +4,7 @@ use Rattle.rules.specs.Logarithm.{squarings}
 use Rattle.rules.specs.Refusals.{greatestDeviation}
 use Rattle.tables.specs.Tables.{entryAt, knownMost}
 use Rattle.tables.proofs.TableRows.{rows-are, A-is, B-is, known-A, known-B, known-most}
-use Rattle.rows.specs.Ranges.{logarithmMost}
+use Rattle.rows.specs.Ranges.{levelMost}
 use Rattle.rows.proofs.KnownTests.{KnownNumbers, last-passes, last-fails, passes, fails, opens}
 use Rattle.rows.proofs.known_row.Statement.{statement}
 use Rattle.rows.proofs.known_row.Tie as tie
@@ -46,7 +46,7 @@ both-read c = rw (c .magnitude-at2 .ensures) (pass-read (c .before .before .befo
 unit-most : (c : tie.Start) → c .args .deviation * 2 ^ squarings ≤ greatestDeviation * 2 ^ squarings
 unit-most c = mul-le-mul-right (2 ^ squarings) (c .pre .0 .deviation-most)
 
-line-most : (c : tie.Start) → c .args .n * c .args .level ≤ 32 * logarithmMost
+line-most : (c : tie.Start) → c .args .n * c .args .level ≤ 32 * levelMost
 line-most c = mul-le-mul (c .pre .0 .most) (c .pre .0 .level-most)
 
 pass-most : (c : tie.After-magnitude-at) → c .magnitude-at .result * (c .before .args .deviation * 2 ^ squarings) ≤ most

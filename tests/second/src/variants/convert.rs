@@ -2,7 +2,8 @@
 
 use super::{wrong, Wrong};
 use crate::check::{check, Record, Refusal, Series};
-use crate::check::{FOUR_POLLUTANTS, POLLUTANT, SIX_POLLUTANTS, SMALL_ENGINE, STOP};
+use crate::check::{ENGINE, POLLUTANT, RUN_IN, SMALL_ENGINE, STOP};
+use crate::check::{FOUR_POLLUTANTS, SIX_POLLUTANTS};
 use crate::document::{Document, Document01};
 
 pub fn convert() -> Vec<Wrong> {
@@ -421,9 +422,42 @@ fn sheets_carried() -> Vec<Wrong> {
             }
         ),
         wrong!(
+            "convert: run-in values not carried",
+            fn carry_record(&self, record: &Record, place: &mut Record) {
+                if record[0] != RUN_IN {
+                    Document01.carry_record(record, place);
+                }
+            }
+        ),
+        wrong!(
+            "convert: run-in values carried as an engine",
+            fn carry_record(&self, record: &Record, place: &mut Record) {
+                Document01.carry_record(record, place);
+                if place[0] == RUN_IN {
+                    place[0] = ENGINE;
+                }
+            }
+        ),
+        wrong!(
+            "convert: the bytes added to run-in values not written",
+            fn carry_record(&self, record: &Record, place: &mut Record) {
+                let before = place.to_vec();
+                Document01.carry_record(record, place);
+                if record[0] == RUN_IN && place.len() > record.len() {
+                    place[record.len()..].copy_from_slice(&before[record.len()..]);
+                }
+            }
+        ),
+        wrong!(
             "convert: 2 for a small engine",
             fn kind_fits(&self, kind: u8) -> bool {
-                (1..=3).contains(&kind)
+                kind != SMALL_ENGINE && Document01.kind_fits(kind)
+            }
+        ),
+        wrong!(
+            "convert: 2 for run-in values",
+            fn kind_fits(&self, kind: u8) -> bool {
+                kind != RUN_IN && Document01.kind_fits(kind)
             }
         ),
         wrong!(
@@ -445,7 +479,25 @@ fn sheets_carried() -> Vec<Wrong> {
             }
         ),
         wrong!(
-            "convert: 37 records at most, 39 of 28 bytes",
+            "convert: 19 not asked",
+            fn run_in_place_fits(&self, _: &Series) -> bool {
+                true
+            }
+        ),
+        wrong!(
+            "convert: 8 not asked of run-in values",
+            fn run_in_values_fit(&self, _: &Record, _: &Series) -> bool {
+                true
+            }
+        ),
+        wrong!(
+            "convert: 12 not asked of run-in values",
+            fn run_in_rest_is_zero(&self, _: &Record) -> bool {
+                true
+            }
+        ),
+        wrong!(
+            "convert: 38 records at most, 40 of 28 bytes",
             fn most_records(&self, size: usize) -> usize {
                 Document01.most_records(size) - 1
             }
@@ -509,10 +561,16 @@ fn written() -> Vec<Wrong> {
                 refusal.is_none_or(|refusal| (16..=18).contains(&refusal.number))
             }
         ),
+        wrong!(
+            "convert: a sheet with run-in values in a wrong place written",
+            fn is_carried(&self, refusal: Option<Refusal>) -> bool {
+                refusal.is_none_or(|refusal| refusal.number == 19)
+            }
+        ),
     ]
 }
 
 /// The refusals that name a record.
 fn is_of_record(refusal: Refusal) -> bool {
-    matches!(refusal.number, 2..=12 | 16..=18)
+    matches!(refusal.number, 2..=12 | 16..=19)
 }

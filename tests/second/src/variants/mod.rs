@@ -15,8 +15,10 @@ mod before_f_9;
 mod convert;
 mod declared;
 mod families;
+mod new_kind;
 mod probe;
 mod report;
+mod run_in;
 mod sizes;
 mod small_engine;
 
@@ -31,6 +33,7 @@ pub use families::{causes, decision_numbers, logarithms, variances};
 pub use probe::{brackets, brackets_of_few, logarithm};
 pub use probe::{evidence, evidence_by_size, lines, reader, reader_by_size};
 pub use report::report_and_append;
+pub use run_in::run_in;
 pub use sizes::sizes;
 pub use small_engine::small_engine;
 
@@ -47,6 +50,16 @@ impl Wrong {
             reading: Box::new(reading),
         }
     }
+}
+
+/// Readings of one sentence, each by its own rule.
+fn by_rule<R, D: Document + 'static, const N: usize>(
+    reading: impl Fn(R) -> D,
+    about: &str,
+    rules: [(&str, R); N],
+) -> Vec<Wrong> {
+    let wrong = |(what, rule)| Wrong::new(format!("{about}: {what}"), reading(rule));
+    rules.map(wrong).into()
 }
 
 /// Wrong readings of the same kind, all of one plan.

@@ -2,9 +2,9 @@
 //! bracket, in what evidence hands back, in the printed lines, and in a sheet under reading.
 
 use super::families::GOff;
-use super::{small_engine, wrong, OldUnits, SixteenSteps, Wrong};
+use super::{run_in, small_engine, wrong, OldUnits, SixteenSteps, Wrong};
 use crate::check::{number_at, Record, Refusal, Series};
-use crate::check::{FOUR_POLLUTANTS, SIX_POLLUTANTS};
+use crate::check::{FOUR_POLLUTANTS, RUN_IN, SIX_POLLUTANTS, SMALL_ENGINE};
 use crate::document::{Document, Document01};
 use crate::judge::Ground;
 use std::borrow::Cow;
@@ -65,19 +65,47 @@ pub fn evidence() -> Vec<Wrong> {
         wrong!(
             "evidence: the small engine's record not counted",
             fn records_through(&self, engine: u8, series: &Series) -> usize {
-                series.declared + usize::from(engine)
+                Document01.records_through(engine, series) - series.small_engines
             }
         ),
         wrong!(
             "evidence: a record counted for the small engine on every sheet",
             fn records_through(&self, engine: u8, series: &Series) -> usize {
-                series.declared + 1 + usize::from(engine)
+                Document01.records_through(engine, series) - series.small_engines + 1
             }
         ),
         wrong!(
             "evidence: the whole sheet where there is a small engine",
             fn records_through(&self, engine: u8, series: &Series) -> usize {
                 match series.small_engines {
+                    0 => Document01.records_through(engine, series),
+                    _ => series.records().count(),
+                }
+            }
+        ),
+        wrong!(
+            "evidence: the record of run-in values not counted",
+            fn records_through(&self, engine: u8, series: &Series) -> usize {
+                Document01.records_through(engine, series) - series.run_ins
+            }
+        ),
+        wrong!(
+            "evidence: a record counted for run-in values on every sheet",
+            fn records_through(&self, engine: u8, series: &Series) -> usize {
+                Document01.records_through(engine, series) - series.run_ins + 1
+            }
+        ),
+        wrong!(
+            "evidence: the record of run-in values counted only without a small engine",
+            fn records_through(&self, engine: u8, series: &Series) -> usize {
+                let both = series.run_ins.min(series.small_engines);
+                Document01.records_through(engine, series) - both
+            }
+        ),
+        wrong!(
+            "evidence: the whole sheet where there are run-in values",
+            fn records_through(&self, engine: u8, series: &Series) -> usize {
+                match series.run_ins {
                     0 => Document01.records_through(engine, series),
                     _ => series.records().count(),
                 }
@@ -183,6 +211,7 @@ pub fn brackets_of_few() -> Vec<Wrong> {
 /// A sheet under reading.
 pub fn reader() -> Vec<Wrong> {
     let mut all = small_engine::fields("reader");
+    all.extend(run_in::fields("reader, run-in values"));
     all.extend(steps());
     all
 }
@@ -204,7 +233,24 @@ fn steps() -> Vec<Wrong> {
         wrong!(
             "reader: kind 5 as another kind",
             fn kind_fits(&self, kind: u8) -> bool {
-                (1..=3).contains(&kind)
+                kind != SMALL_ENGINE && Document01.kind_fits(kind)
+            }
+        ),
+        wrong!(
+            "reader: kind 6 as another kind",
+            fn kind_fits(&self, kind: u8) -> bool {
+                kind != RUN_IN && Document01.kind_fits(kind)
+            }
+        ),
+        wrong!(
+            "reader: a run-in value that does not fit left out",
+            fn run_in_value(&self, record: &Record, pollutant: usize) -> u32 {
+                let value = Document01.run_in_value(record, pollutant);
+                if self.measurement_fits(value) {
+                    value
+                } else {
+                    0
+                }
             }
         ),
         wrong!(
@@ -344,6 +390,15 @@ pub fn reader_by_size() -> Vec<Wrong> {
                 match pollutant {
                     5 => 0,
                     _ => Document01.measurement(record, pollutant),
+                }
+            }
+        ),
+        wrong!(
+            "reader: run-in values 5 and 6 not read",
+            fn run_in_value(&self, record: &Record, pollutant: usize) -> u32 {
+                match pollutant {
+                    4 | 5 => 0,
+                    _ => Document01.run_in_value(record, pollutant),
                 }
             }
         ),

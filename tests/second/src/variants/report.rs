@@ -3,7 +3,8 @@
 use super::{wrong, Number, OldUnits, SixteenSteps, Wrong};
 use crate::check::{Record, Refusal, Series};
 use crate::document::{Document, Document01, PLANS};
-use crate::judge::{Decision, Ending, GrossEmitters, Ground, Judgement, Row, Verdict};
+use crate::judge::{Decision, Ending, GrossEmitters, Ground, Judgement, Verdict};
+use crate::judge::{Measured, Row};
 use crate::operations::LONGEST_REPORT;
 use crate::tables::Column;
 
@@ -232,8 +233,8 @@ fn plan_3() -> Vec<Wrong> {
     vec![
         wrong!(
             "plan 3: an engine at the limit counts",
-            fn is_over(&self, x: u32, limit: u32) -> bool {
-                x >= limit
+            fn is_over(&self, numbers: Measured<u32>) -> bool {
+                numbers.x == numbers.limit || Document01.is_over(numbers)
             }
         ),
         Wrong::new(

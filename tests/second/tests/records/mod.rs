@@ -2,7 +2,7 @@
 
 #![allow(dead_code)]
 
-use second::{judge, Document, Judgement, Refusal, SIZES};
+use second::{append, judge, Document, Document01, Judgement, Refusal, SIZES};
 
 /// What memory holds before a call.
 pub const UNWRITTEN: u8 = 0xA5;
@@ -45,8 +45,16 @@ pub fn small_engine(size: usize, volume: u16, speed: u16, date: u32) -> Vec<u8> 
     record
 }
 
-/// The fullest sheet of plan 1 with these pollutants: a small engine, 32 engines and a stop. The
-/// limits are 150, which is the rule's for an engine of 700 cm³.
+/// Kind 6, with pollutants and their values after running-in.
+pub fn run_in(size: usize, values: &[(usize, u32)]) -> Vec<u8> {
+    let mut record = engine(size, 0, values);
+    record[0] = 6;
+    record
+}
+
+/// The fullest sheet of plan 1 with these pollutants: a small engine, run-in values, 32 engines and
+/// a stop. The limits are 150, which is the rule's for an engine of 700 cm³, and so is all that is
+/// measured.
 pub fn fullest(size: usize, numbers: &[u8]) -> Vec<u8> {
     let measured: Vec<(usize, u32)> = numbers.iter().map(|&n| (n.into(), 150)).collect();
     let mut sheet = Vec::new();
@@ -54,6 +62,7 @@ pub fn fullest(size: usize, numbers: &[u8]) -> Vec<u8> {
         sheet.extend(pollutant(size, number, 1, 150, 4_000_000));
     }
     sheet.extend(small_engine(size, 700, 3001, 19_980_930));
+    sheet.extend(run_in(size, &measured));
     sheet.extend(engine(size, 0, &measured).repeat(32));
     sheet.extend(stop(size));
     sheet
@@ -61,6 +70,19 @@ pub fn fullest(size: usize, numbers: &[u8]) -> Vec<u8> {
 
 pub fn refused<T>(number: u8, record: u8) -> Result<T, Refusal> {
     Err(Refusal { number, record })
+}
+
+/// The answer; on success the record stands behind the sheet, and else nothing was written.
+pub fn appended(size: usize, sheet: &[u8], record: &[u8]) -> Result<(), Refusal> {
+    let mut buffer = [sheet, &vec![UNWRITTEN; size + 1]].concat();
+    let before = buffer.clone();
+    let answer = append(&Document01, size, &mut buffer, sheet.len(), record);
+    let after = match answer {
+        Ok(()) => [sheet, record, &[UNWRITTEN]].concat(),
+        Err(_) => before,
+    };
+    assert_eq!(buffer, after);
+    answer
 }
 
 /// One sheet in records of each size.

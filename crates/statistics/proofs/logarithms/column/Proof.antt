@@ -8,35 +8,48 @@ use Rattle.accepted.proofs.Sheets.{record-inside}
 use Rattle.plan.specs.Plan.{planIs}
 use Rattle.layout.specs.Sizes.{widthIs}
 use Rattle.logarithm.proofs.Bounds.{g-fits}
+use Rattle.rows.specs.Sums.{gain, level}
+use Rattle.corrections.specs.Corrections.{correctionIn}
 use Rattle.rows.specs.declared.Row.{Row}
 use Rattle.statistics.specs.Column.{columnIs}
 use Rattle.statistics.specs.Fours.{Logs}
 use Rattle.statistics.specs.Ranges.{highest}
 use Rattle.statistics.proofs.Sums.{sums-fit, row-range}
 use Rattle.statistics.proofs.Places.{place-is}
-use Rattle.statistics.proofs.Going.{says, column-none, early-open, Tells, tells, none-tells, late, in-engines, measured-range, Sums, sums-more, row-more}
+use Rattle.statistics.proofs.Going.{says, says-by, column-none, Tells, tells, none-tells, late, in-engines, measured-range, Sums, sums-more, row-more}
 use Rattle.statistics.proofs.logarithms.column.Statement.{statement}
 use Rattle.statistics.proofs.logarithms.column.Tie as tie
 
 abbrev Inv-loop : tie.InvT-loop
-Inv-loop size bytes start plan number limit deviation rows table logs₀ level sum₀ squares₀ any₀ n₀ logs sum squares any n =
+Inv-loop size bytes start plan number limit deviation rows table logs₀ gain level sum₀ squares₀ any₀ n₀ logs sum squares any n =
     (n ≤ rows)
     × Logs logs (widthIs size) bytes start number rows n
     × (columnIs (widthIs size) plan bytes number limit deviation n ≡ isOpen)
-    × Sums (widthIs size) bytes number limit n level sum squares any
+    × Sums (widthIs size) bytes number limit n gain level sum squares any
 
 abbrev μ-loop : tie.MeasureT-loop
-μ-loop size bytes start plan number limit deviation rows table logs₀ level sum₀ squares₀ any₀ n₀ logs sum squares any n = rows - n
+μ-loop size bytes start plan number limit deviation rows table logs₀ gain level sum₀ squares₀ any₀ n₀ logs sum squares any n = rows - n
 
 -- the function's entry, and the loop's body
 entry : tie.At-loop Inv-loop μ-loop → tie.Start Inv-loop μ-loop
-entry c = c .before .before .before .before .before
+entry c = c .before .before .before .before .before .before
 
 body : tie.After-four-with Inv-loop μ-loop → tie.In-loop Inv-loop μ-loop
 body c = c .before .before .before
 
-level-is : (c : tie.After-put-four Inv-loop μ-loop) → getD (c .put-four .last .0) 0 0 ≡ g squarings (c .before .before .before .before .args .limit)
-level-is c = ap (λ (xs : List ℕ). getD xs 0 0) (c .put-four .ensures)
+-- the limit's logarithm, and what is added to each logarithm and taken away
+limit-is : (c : tie.After-put-four Inv-loop μ-loop) → getD (c .put-four .last .0) 0 0 ≡ g squarings (c .before .before .before .args .limit)
+limit-is c = ap (λ (xs : List ℕ). getD xs 0 0) (c .put-four .ensures)
+
+gain-is : (c : tie.After-log2-of2 Inv-loop μ-loop) → let a = c .before .before .before .before .before .args in
+    c .before .log2-of .result ≡ gain squarings (correctionIn (widthIs (a .size)) (a .bytes .now) (a .number))
+gain-is c = let s = c .before .before .before .before .before in rw (s .pre .0 .corrected .corrects .is) (c .before .log2-of .ensures)
+
+level-is : (c : tie.After-log2-of2 Inv-loop μ-loop) → let a = c .before .before .before .before .before .args in
+    getD (c .before .before .put-four .last .0) 0 0 + c .log2-of2 .result ≡ level squarings (a .limit) (correctionIn (widthIs (a .size)) (a .bytes .now) (a .number))
+level-is c =
+    let s = c .before .before .before .before .before in
+    rw (s .pre .0 .corrected .corrects .is, limit-is (c .before .before), c .log2-of2 .ensures) refl
 
 -- the row's number, and the logarithm at hand
 abbrev N : tie.After-four-with Inv-loop μ-loop → ℕ
@@ -47,13 +60,13 @@ Y c = getD (c .four-with .last .0) (N c % 4) 0
 
 -- the sums with one engine more
 sums : (c : tie.After-four-with Inv-loop μ-loop) → let i = body c in let a = entry (i .before) .args in let l = i .before .loop in
-    Sums (widthIs (a .size)) (a .bytes .now) (a .number) (a .limit) (N c) (getD (i .before .before .put-four .last .0) 0 0) (l .sum + Y c) (l .squares + Y c * Y c)
+    Sums (widthIs (a .size)) (a .bytes .now) (a .number) (a .limit) (N c) (i .before .before .before .log2-of .result) (getD (i .before .before .before .before .put-four .last .0) 0 0 + i .before .before .log2-of2 .result) (l .sum + Y c) (l .squares + Y c * Y c)
     (l .any || not (eqb (c .before .before .cause-at .result) 0))
 unfolding entry body
 sums c =
     let i = body c in
     let t = i .loop-test .taken in
-    sums-more (entry (i .before) .pre .0 .column) (i .before .loop .n) t (i .before .loop .inv .3)
+    sums-more (entry (i .before) .pre .0 .corrected .column) (i .before .loop .n) t (i .before .loop .inv .3)
     (c .before .before .cause-at .ensures .0) (c .four-with .ensures .each _ refl t)
 
 fits : (c : tie.After-four-with Inv-loop μ-loop) → let l = body c .before .loop in let rows = entry (body c .before) .args .rows in
@@ -62,7 +75,7 @@ unfolding entry body
 fits c =
     let i = body c in
     let t = i .loop-test .taken in
-    let e = in-engines (entry (i .before) .pre .0 .column) .2 in
+    let e = in-engines (entry (i .before) .pre .0 .corrected .column) .2 in
     let f = sums-fit (sums c .sums) (omega arith) in
     (f .0, f .1, omega arith, e)
 
@@ -76,7 +89,7 @@ made c =
     let i = body f in
     let l = i .before .loop in
     let t = i .loop-test .taken in
-    row-more (entry (i .before) .pre .0 .column) (l .n) t (l .inv .3)
+    row-more (entry (i .before) .pre .0 .corrected .column) (l .n) t (l .inv .3)
     (f .before .before .cause-at .ensures .0) (f .four-with .ensures .each _ refl t)
     (l .inv .2) (c .looks .ensures)
 
@@ -89,20 +102,18 @@ told c e =
     let f = k .before .before in
     let a = entry (body f .before) .args in
     tells (widthIs (a .size)) (a .plan) (a .bytes .now) (a .number) (a .limit) (a .deviation) (N f) (a .rows) (omega (arith, body f .loop-test .taken))
-    (rw (k .if2 .taken) at (made (k .before)) ∙ ap (λ r. decidedAt (N f) r) (sym (c .row .ensures _ _ (sums f .sums)))) e
-
-returns : tie.Need-returns Inv-loop μ-loop
-returns c =
-    let a = c .before .before .args in
-    record { declared = refl; decides = sym (early-open (widthIs (a .size)) (a .plan) (a .bytes .now) (a .number) (a .limit) (a .deviation) _ (c .if1 .taken)) }
+    (rw (k .if1 .taken) at (made (k .before))
+    ∙ ap (λ r. decidedAt (N f) r)
+    (says-by (widthIs (a .size)) (a .plan) (a .bytes .now) (a .number) (a .limit) (a .deviation) (N f) (omega arith) ∙ sym (c .row .ensures _ _ _ (sums f .sums)))) e
 
 loop-holds : tie.Need-loop-holds Inv-loop μ-loop
 loop-holds c =
-    let a = c .before .before .before .before .args in (
+    let f = c .before .before in
+    let a = f .before .before .before .args in (
       omega arith,
-      place-is _ _ _ _ _ (a .limit) 0 0 refl (λ k z. absurd (omega arith)) (c .put-four .ensures),
+      place-is _ _ _ _ _ (a .limit) 0 0 refl (λ k z. absurd (omega arith)) (f .put-four .ensures),
       column-none (widthIs (a .size)) (a .plan) (a .bytes .now) (a .number) (a .limit) (a .deviation),
-      record { sums = record { count = refl; sumIs = refl; squaresIs = refl; levelIs = level-is c }; someIs = refl },
+      record { sums = record { count = refl; sumIs = refl; squaresIs = refl; gainIs = gain-is c; levelIs = level-is c }; someIs = refl },
     )
 
 row-requires : tie.Need-row-requires Inv-loop μ-loop
@@ -111,8 +122,8 @@ row-requires c κs =
     let f = c .before .before in
     let i = body f in
     let p = entry (i .before) .pre in
-    let h : N f ≤ lastRow (planIs (entry (i .before) .args .plan)) = omega (arith, i .loop-test .taken, in-engines (p .0 .column)) in (
-      row-range (sums f .sums) (p .0 .logs) (late _ _ _ (c .before .looks .ensures) (c .if2 .taken)) h (p .0 .column .deviation),
+    let h : N f ≤ lastRow (planIs (entry (i .before) .args .plan)) = omega (arith, i .loop-test .taken, in-engines (p .0 .corrected .column)) in (
+      row-range (sums f .sums) (p .0 .logs) (late _ _ _ (c .before .looks .ensures) (c .if1 .taken)) h (p .0 .corrected .column .deviation),
       p .1,
     )
 
@@ -128,12 +139,12 @@ loop-again-2 : tie.Need-loop-again-2 Inv-loop μ-loop
 unfolding entry body
 loop-again-2 c =
     let f = c .before .before in
-    (omega (arith, body f .loop-test .taken), f .four-with .ensures, rw (c .if2 .left) at (made (c .before)), sums f)
+    (omega (arith, body f .loop-test .taken), f .four-with .ensures, rw (c .if1 .left) at (made (c .before)), sums f)
 
 put-four-requires : tie.Need-put-four-requires Inv-loop μ-loop
 unfolding entry body
 put-four-requires c κs =
-    let p = c .before .before .before .pre .0 .column in
+    let p = c .before .before .pre .0 .corrected .column in
     record { room = refl; number = p .limit; all = measured-range p; some = omega arith }
 
 pub column-spec : {M : Type 1} → statement M
@@ -141,12 +152,15 @@ unfolding entry body
 column-spec =
     tie.close
     (tie.spec
-    Inv-loop μ-loop returns put-four-requires (λ c. search needs)
-    (λ c. omega (arith, level-is c, g-fits (c .before .before .before .before .args .limit)))
+    Inv-loop μ-loop put-four-requires
+    (λ c κs. search needs) (λ c. search needs)
+    (λ c. search needs) (λ c. omega (arith, limit-is (c .before), g-fits (c .before .before .before .before .args .limit)))
+    (λ c κs. search needs) (λ c. search needs)
+    (λ c. omega (arith, limit-is (c .before .before), c .log2-of2 .ensures, g-fits (c .before .before .before .before .before .args .limit), g-fits (c .before .before .before .before .before .args .correction .first)))
     loop-holds
-    (λ c. omega (arith, measured-range (entry (c .before) .pre .0 .column) .few, c .loop-test .taken))
-    (λ c κs. record { inside = record-inside _ _ _ _ (measured-range (entry (c .before) .pre .0 .column) .inside) (omega (arith, c .loop-test .taken)) })
-    (λ c κs. let i = c .before .before in record { last = i .before .loop .inv .1; all = measured-range (entry (i .before) .pre .0 .column); some = i .loop-test .taken })
+    (λ c. omega (arith, measured-range (entry (c .before) .pre .0 .corrected .column) .few, c .loop-test .taken))
+    (λ c κs. record { inside = record-inside _ _ _ _ (measured-range (entry (c .before) .pre .0 .corrected .column) .inside) (omega (arith, c .loop-test .taken)) })
+    (λ c κs. let i = c .before .before in record { last = i .before .loop .inv .1; all = measured-range (entry (i .before) .pre .0 .corrected .column); some = i .loop-test .taken })
     (λ c. omega (arith, fits c))
     (λ c. search needs) (λ c. omega arith)
     (λ c. omega (arith, fits c)) (λ c. omega (arith, fits c)) (λ c. omega (arith, fits c)) (λ c. omega (arith, fits c))

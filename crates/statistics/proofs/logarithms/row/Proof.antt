@@ -32,7 +32,7 @@ root-row-requires c κs =
 pub row-spec : {M : Type 1} → statement M
 row-spec =
     tie.close
-    (tie.spec (λ c. search needs) (λ c κs. let p = c .before .before .pre in (omega (arith, p .0), record { holds = rw (c .enum-told .given .1) at (p .1 .holds) }))
+    (tie.spec (λ c. search needs) (λ c. search needs) (λ c. search needs) (λ c κs. let p = c .before .before .pre in (omega (arith, p .0), record { holds = rw (c .enum-told .given .1) at (p .1 .holds) }))
     (λ c. search needs) (λ c. search needs) (λ c. search needs) (λ c. search needs) root-row-requires
-    (λ c. λ L xs s. c .known-row .ensures ∙ (rw (c .before .enum-told .given .1, s .count, s .sumIs, s .levelIs) (sym (known-row-is squarings L _ xs))))
-    (λ c. λ L xs s. c .root-row .ensures ∙ (rw (s .count, s .sumIs, s .squaresIs, s .levelIs) (sym (root-row-is squarings L _ xs (planIs (c .before .before .args .plan)) (root-compares (c .before)))))))
+    (λ c. λ L k xs s. c .known-row .ensures ∙ (rw (c .before .enum-told .given .1, s .count, s .sumIs, s .gainIs, s .levelIs) (sym (known-row-is squarings L _ k xs))))
+    (λ c. λ L k xs s. c .root-row .ensures ∙ (rw (s .count, s .sumIs, s .squaresIs, s .gainIs, s .levelIs) (sym (root-row-is squarings L _ k xs (planIs (c .before .before .args .plan)) (root-compares (c .before)))))))

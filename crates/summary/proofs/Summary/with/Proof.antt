@@ -23,5 +23,9 @@ with-spec =
     (λ c κs. search needs) (λ c κs. search needs) (λ c κs. search needs) (λ c. search needs)
     (λ c. rw (← c .before .before .kind-of .ensures .0, c .before .if1 .taken) refl)
     pollutant
-    (λ c. rw (← c .before .before .before .before .kind-of .ensures .0, c .before .if3 .taken) refl)
-    (λ c. rw (← c .before .before .before .kind-of .ensures .0, ne-eqb _ _ (c .if3 .left), ne-eqb _ _ (c .before .if2 .left), ne-eqb _ _ (c .before .before .if1 .left)) refl))
+    (λ c.
+    let t = c .before .before in
+    rw (← t .before .before .kind-of .ensures .0, ne-eqb _ _ (t .if2 .left), ne-eqb _ _ (t .before .if1 .left), c .before .if3 .taken) refl)
+    (λ c.
+    let t = c .before in
+    rw (← t .before .before .kind-of .ensures .0, ne-eqb _ _ (t .if2 .left), ne-eqb _ _ (t .before .if1 .left), c .if3 .left) refl))

@@ -14,7 +14,7 @@ use compare::promises;
 use compare::refusals::WAYS;
 use compare::seen::{print_exact, print_pairs, Seen};
 use compare::small_engines::{date_sheets, volume_and_speed_sheets};
-use compare::sweeps::{cause_sheets, logarithm_trials};
+use compare::sweeps::{cause_sheets, logarithm_trials, Begun, Sweep};
 use compare::tally::Tally;
 use library::{Library, LIBRARY};
 use random::Random;
@@ -45,6 +45,7 @@ fn compare(scale: Scale, step: usize) -> ExitCode {
         compare_chosen(&corpus, &mut tally);
         compare_empty(size, &mut tally);
         sweep_logarithms(&series.paper, size, step, &mut tally);
+        sweep_run_in(&series.paper, size, step, &mut tally);
         sweep_causes(size, step, &mut tally);
         sweep_small_engines(size, step, &mut tally);
         promises::keep(size, scale.promises, &mut tally);
@@ -189,29 +190,53 @@ fn compare_empty(size: usize, tally: &mut Tally) {
 }
 
 fn sweep_logarithms(paper: &Paper, size: usize, step: usize, tally: &mut Tally) {
-    let mut pairs = 0u64;
-    let mut limits = vec![false; LARGEST as usize + 1];
-    let mut measurements = limits.clone();
-    for trial in logarithm_trials(paper, size, step) {
-        pairs += 1;
-        for m in trial.limits {
-            limits[m as usize] = true;
+    let trials = Trials {
+        sweep: Sweep::Plain,
+        places: ["limits", "measurements"],
+        numbers: |begun| [vec![begun.limit], begun.first_two.into()],
+    };
+    trials.compare(paper, size, step, tally);
+}
+
+fn sweep_run_in(paper: &Paper, size: usize, step: usize, tally: &mut Tally) {
+    let trials = Trials {
+        sweep: Sweep::RunIn,
+        places: ["run-in values", "run-in engines before"],
+        numbers: |begun| [begun.run_in.into_iter().collect(), vec![begun.first_two[0]]],
+    };
+    trials.compare(paper, size, step, tally);
+}
+
+/// A sweep of logarithms, and the two places in which it has every m.
+struct Trials {
+    sweep: Sweep,
+    places: [&'static str; 2],
+    numbers: fn(&Begun) -> [Vec<u32>; 2],
+}
+
+impl Trials {
+    fn compare(&self, paper: &Paper, size: usize, step: usize, tally: &mut Tally) {
+        let mut pairs = 0u64;
+        let mut seen = [(); 2].map(|()| vec![false; LARGEST as usize + 1]);
+        for trial in logarithm_trials(paper, self.sweep, size, step) {
+            pairs += 1;
+            for numbers in trial.begun.iter().map(self.numbers) {
+                for (seen, numbers) in seen.iter_mut().zip(numbers) {
+                    numbers.into_iter().for_each(|m| seen[m as usize] = true);
+                }
+            }
+            for chosen in &trial.sheets {
+                compare_asked(size, chosen, "the sweep of logarithms", tally);
+            }
         }
-        for m in trial.measurements.into_iter().flatten() {
-            measurements[m as usize] = true;
+        let counts = seen.map(|seen| seen.into_iter().filter(|&seen| seen).count());
+        let [one, other] = self.places;
+        if step == 1 && counts != [LARGEST as usize; 2] {
+            tally.gap(&format!("every m among {one} and {other}"));
         }
-        for chosen in &trial.sheets {
-            compare_asked(size, chosen, "the sweep of logarithms", tally);
-        }
+        let [ones, others] = counts;
+        println!("{pairs} pairs of sheets: the logarithms of {ones} {one}, {others} {other}");
     }
-    let [limits, measurements] =
-        [limits, measurements].map(|seen| seen.into_iter().filter(|&seen| seen).count());
-    if step == 1 && [limits, measurements] != [LARGEST as usize; 2] {
-        tally.gap("every m as a limit and as a measurement");
-    }
-    println!(
-        "{pairs} pairs of sheets: the logarithms of {limits} limits, {measurements} measurements"
-    );
 }
 
 fn sweep_causes(size: usize, step: usize, tally: &mut Tally) {

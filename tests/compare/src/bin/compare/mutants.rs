@@ -3,14 +3,17 @@
 use crate::lengths;
 use crate::library::LIBRARY;
 use compare::cases::{reported, visit_cases, visit_no_sizes, Case, Second};
+use compare::clauses::has;
 use compare::corpus::{Corpus, LineSeries, Scale, FULL};
+use compare::draft::RUN_IN;
 use compare::memory::{Boxes, Edge};
 use compare::paper::{Chosen, Paper};
 use compare::program::Mutants;
 use compare::small_engines::{date_sheets, volume_and_speed_sheets};
-use compare::sweeps::{cause_sheets, logarithm_trials, logarithm_trials_with, LogarithmTrial};
+use compare::sweeps::{cause_sheets, logarithm_trials, logarithm_trials_with};
+use compare::sweeps::{LogarithmTrial, Sweep};
 use random::Random;
-use second::variants;
+use second::variants::{self, Family};
 use second::{Document, SIZES};
 use std::ops::ControlFlow;
 use std::process::ExitCode;
@@ -38,6 +41,11 @@ pub fn catch() -> ExitCode {
         });
         mutants.note_both(&wrong, caught_by);
     }
+    for wrong in variants::run_in() {
+        let reading = wrong.reading.as_ref();
+        let caught_by = corpora.each_ref().map(|corpus| in_corpus(corpus, reading));
+        mutants.note_both(&wrong, caught_by);
+    }
     for wrong in variants::sizes() {
         let reading = wrong.reading.as_ref();
         let mut caught_by = corpora
@@ -50,13 +58,24 @@ pub fn catch() -> ExitCode {
         |plan, wrong: &dyn Document| corpora.iter().all(|corpus| is_in(corpus, plan, wrong));
     mutants.try_families(variants::decision_numbers(), in_corpora);
     mutants.try_families(variants::variances(), in_corpora);
+    let on_run_in_sheets = |plan, wrong: &dyn Document| {
+        let mut corpora = corpora.iter();
+        corpora.all(|corpus| is_on_run_in_sheet(corpus, plan, wrong))
+    };
+    mutants.try_families(
+        run_in_families(variants::decision_numbers()),
+        on_run_in_sheets,
+    );
+    mutants.try_families(run_in_families(variants::variances()), on_run_in_sheets);
     mutants.try_families(variants::sixteen_steps_under_one_plan(), in_corpora);
     for (m, wrong) in variants::logarithms() {
-        let caught_by = SIZES.map(|size| {
-            let trials = logarithm_trials_with(&series.paper, size, m);
-            in_logarithms(size, trials, wrong.reading.as_ref())
-        });
-        mutants.note_both(&wrong, caught_by);
+        for sweep in [Sweep::Plain, Sweep::RunIn] {
+            let caught_by = SIZES.map(|size| {
+                let trials = logarithm_trials_with(&series.paper, sweep, size, m);
+                in_logarithms(size, trials, wrong.reading.as_ref())
+            });
+            mutants.note_both(&wrong, caught_by);
+        }
     }
     let in_causes =
         |_, wrong: &dyn Document| SIZES.into_iter().all(|size| is_in_causes(size, wrong));
@@ -68,7 +87,10 @@ pub fn catch() -> ExitCode {
 fn caught_by(corpus: &Corpus, paper: &Paper, wrong: &dyn Document) -> Option<String> {
     let size = corpus.size;
     in_corpus(corpus, wrong)
-        .or_else(|| in_logarithms(size, logarithm_trials(paper, size, 1), wrong))
+        .or_else(|| {
+            let trials = logarithm_trials(paper, Sweep::Plain, size, 1);
+            in_logarithms(size, trials, wrong)
+        })
         .or_else(|| is_in_causes(size, wrong).then(|| "the sweep of causes".to_string()))
 }
 
@@ -117,10 +139,36 @@ fn name(case: &Case) -> String {
     }
 }
 
+/// The families of the plans that have run-in sheets, to be noticed on these alone.
+fn run_in_families(families: Vec<Family>) -> Vec<Family> {
+    let of_production = families.into_iter().filter(|family| family.plan != 4);
+    of_production
+        .map(|family| Family {
+            title: format!("{}, on run-in sheets", family.title),
+            ..family
+        })
+        .collect()
+}
+
 /// Whether a report of the corpus under this plan shows it.
 fn is_in(corpus: &Corpus, plan: u8, wrong: &dyn Document) -> bool {
+    is_in_some(corpus, plan, wrong, |_| true)
+}
+
+/// Whether a report of a run-in sheet of the corpus under this plan shows it.
+fn is_on_run_in_sheet(corpus: &Corpus, plan: u8, wrong: &dyn Document) -> bool {
+    is_in_some(corpus, plan, wrong, |sheet| has(RUN_IN, corpus.size, sheet))
+}
+
+fn is_in_some(
+    corpus: &Corpus,
+    plan: u8,
+    wrong: &dyn Document,
+    looked_at: impl Fn(&[u8]) -> bool,
+) -> bool {
     let visited = corpus.visit(&mut |_, sheet| {
-        if sheet.get(2) == Some(&plan) && differ(corpus.size, wrong, sheet) {
+        let looked_at = sheet.get(2) == Some(&plan) && looked_at(sheet);
+        if looked_at && differ(corpus.size, wrong, sheet) {
             ControlFlow::Break(())
         } else {
             ControlFlow::Continue(())

@@ -1,11 +1,11 @@
 //! What the compared conversions showed from records of one size: every refusal, also where a later
-//! one would have been due, outputs of every kind, the shortest and the longest sheets carried, and
-//! small engines.
+//! one would have been due, outputs of every kind, the shortest and the longest sheets carried,
+//! small engines and run-in values.
 
 use compare::cases::Answer;
-use compare::clauses::has_small_engine;
+use compare::clauses::has;
 use compare::conversions::Conversion;
-use compare::draft::POLLUTANT;
+use compare::draft::{POLLUTANT, RUN_IN, SMALL_ENGINE};
 use compare::refusals::OF_RECORD;
 use compare::tally::{Kinds, Tally};
 use second::{Document, Document01, FOUR_POLLUTANTS, SIX_POLLUTANTS};
@@ -23,6 +23,7 @@ enum Kind {
     RoomToSpare,
     Records(usize),
     SmallEngine,
+    RunIn,
 }
 
 impl fmt::Display for Kind {
@@ -36,6 +37,7 @@ impl fmt::Display for Kind {
             Kind::RoomToSpare => write!(formatter, "into a longer output"),
             Kind::Records(records) => write!(formatter, "{records} records carried"),
             Kind::SmallEngine => write!(formatter, "a small engine carried"),
+            Kind::RunIn => write!(formatter, "run-in values carried"),
         }
     }
 }
@@ -57,6 +59,7 @@ fn demanded(size: usize) -> Vec<Kind> {
         Kind::Records(1),
         Kind::Records(Document01.most_records(FOUR_POLLUTANTS)),
         Kind::SmallEngine,
+        Kind::RunIn,
     ]);
     kinds
 }
@@ -76,8 +79,10 @@ impl Seen {
                 Kind::RoomToSpare
             });
             self.0.count(Kind::Records(sheet.len() / size));
-            if has_small_engine(size, sheet) {
-                self.0.count(Kind::SmallEngine);
+            for (kind, carried) in [(SMALL_ENGINE, Kind::SmallEngine), (RUN_IN, Kind::RunIn)] {
+                if has(kind, size, sheet) {
+                    self.0.count(carried);
+                }
             }
             return;
         }

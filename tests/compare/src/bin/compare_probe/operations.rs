@@ -107,6 +107,9 @@ fn fields(step: Step) -> [u32; 8] {
             speed,
             date,
         } => [5, volume.into(), speed.into(), date, 0, 0, 0, 0],
+        Step::RunIn {
+            values: [one, two, three, four, five, six],
+        } => [6, 0, one, two, three, four, five, six],
         Step::Other { kind } => [100, kind.into(), 0, 0, 0, 0, 0, 0],
         Step::End => [101, 0, 0, 0, 0, 0, 0, 0],
     }
