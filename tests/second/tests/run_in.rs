@@ -3,8 +3,8 @@
 
 mod records;
 
-use records::UNWRITTEN;
-use records::{appended, engine, fullest, judged, pollutant, refused, run_in, small_engine, stop};
+use records::{appended, engine, fullest, judged, kinds, pollutant, refused};
+use records::{run_in, small_engine, stop, UNWRITTEN};
 use second::{convert, evidence, judge, lines, report};
 use second::{Decision, Document, Document01};
 use second::{Ground, Judgement, Reader, Refusal, Step, Verdict};
@@ -350,26 +350,6 @@ fn printed_lines() {
     assert_eq!(lines(&Document01, &sheet), "pass 4 1\n1 pass 4\n");
     let second = [&sheet[..40], &sheet[20..]].concat();
     assert_eq!(lines(&Document01, &second), "refused 19 2\n");
-}
-
-/// One record of each kind. Pollutant 1 has the limit 200, and all that is measured is 200.
-fn of_kind(size: usize, plan: u8, kind: u8) -> Vec<u8> {
-    match kind {
-        1 => pollutant(size, 1, plan, 200, u32::from(plan == 1)),
-        2 => engine(size, 0, &[(1, 200)]),
-        3 => stop(size),
-        5 => small_engine(size, 699, 3001, 19_980_930),
-        6 => run_in(size, &[(1, 200)]),
-        _ => [vec![kind], vec![0; size - 1]].concat(),
-    }
-}
-
-fn kinds(plan: u8, kinds: &[u8]) -> Result<Judgement, Refusal> {
-    let sheet = |size| {
-        let records = kinds.iter().map(|&kind| of_kind(size, plan, kind));
-        records.flatten().collect()
-    };
-    judged(&Document01, &SIZES.map(sheet))
 }
 
 /// "Before the first engine": after the pollutants, and behind a kind 5 if there is one.

@@ -3,7 +3,7 @@
 
 mod records;
 
-use records::{appended, engine, fullest, judged, pollutant, refused, small_engine, stop};
+use records::{appended, engine, fullest, judged, kinds, pollutant, refused, small_engine, stop};
 use records::{Sheets, UNWRITTEN};
 use second::{convert, evidence, judge, lines, report};
 use second::{Decision, Document, Document01};
@@ -206,29 +206,10 @@ fn last_days() {
     }
 }
 
-/// One record of each kind. Pollutant 1 has the limit 200, and the engine is at it.
-fn of_kind(size: usize, plan: u8, kind: u8) -> Vec<u8> {
-    match kind {
-        1 => pollutant(size, 1, plan, 200, 0),
-        2 => engine(size, 0, &[(1, 200)]),
-        3 => stop(size),
-        5 => record(size, SMALL),
-        _ => [vec![kind], vec![0; size - 1]].concat(),
-    }
-}
-
-fn kinds(plan: u8, kinds: &[u8]) -> Result<Judgement, Refusal> {
-    let sheet = |size| {
-        let records = kinds.iter().map(|&kind| of_kind(size, plan, kind));
-        records.flatten().collect()
-    };
-    judged(&Document01, &SIZES.map(sheet))
-}
-
 /// "Allowed once, straight after the pollutant records".
 #[test]
 fn places() {
-    for plan in [2, 3, 5] {
+    for plan in [1, 2, 3, 5] {
         for (records, number, at) in [
             (&[1, 5, 5][..], 16, 2),
             (&[1, 2, 5], 16, 2),

@@ -94,3 +94,24 @@ pub fn judged(document: &impl Document, sheets: &Sheets) -> Result<Judgement, Re
     assert_eq!(four, six);
     four
 }
+
+/// One record of each kind. Pollutant 1 has the limit 200, and all that is measured is 200.
+fn of_kind(size: usize, plan: u8, kind: u8) -> Vec<u8> {
+    match kind {
+        1 => pollutant(size, 1, plan, 200, u32::from(plan == 1)),
+        2 => engine(size, 0, &[(1, 200)]),
+        3 => stop(size),
+        5 => small_engine(size, 699, 3001, 19_980_930),
+        6 => run_in(size, &[(1, 200)]),
+        _ => [vec![kind], vec![0; size - 1]].concat(),
+    }
+}
+
+/// The answer to the sheet with records of these kinds.
+pub fn kinds(plan: u8, kinds: &[u8]) -> Result<Judgement, Refusal> {
+    let sheet = |size| {
+        let records = kinds.iter().map(|&kind| of_kind(size, plan, kind));
+        records.flatten().collect()
+    };
+    judged(&Document01, &SIZES.map(sheet))
+}
