@@ -61,7 +61,7 @@ struct standing {
 
 struct gross {
     uint16_t causes[15];
-    int count, newest, equal;
+    int count, equal;
 };
 
 static uint32_t number_at(const uint8_t *record, int place)
@@ -286,7 +286,6 @@ static void add(struct standing *standing, int plan, uint32_t x)
 
 static void add_gross(struct gross *gross, uint16_t cause)
 {
-    gross->newest = cause != 0;
     if (cause == 0)
         return;
     for (int i = 0; i < gross->count; i++)
@@ -357,7 +356,7 @@ static void judge(const uint8_t *sheet, const struct series *series, uint8_t *ou
             write_report(output, REFERRED, BY_REFERRAL, n, standings);
             return;
         }
-        if (n < 15 && (gross.newest || (n == 3 && gross.count > 0)))
+        if (n == 3 && gross.count > 0)
             continue;
         int verdict = row(standings, series, n);
         if (verdict != OPEN) {

@@ -263,6 +263,33 @@ static void finer(void) {
     three("finer-9000010", 2, 9000000, 0, 9000010, FAIL_AT_3);
 }
 
+/* Four vehicles of plan 4 with the limit 1000: a gross emitter, two that measure the same, and another gross emitter. */
+static void four_vehicles(const char *name, uint32_t middle, uint32_t last, uint32_t last_cause, const char *lines) {
+    int is_gross = middle > 1500;
+    pollutant(1, 4, 1000, 0);
+    engine(1, 1501, 0, 0, 0);
+    engine(is_gross ? 2 : 0, middle, 0, 0, 0);
+    engine(is_gross ? 3 : 0, middle, 0, 0, 0);
+    engine(last_cause, last, 0, 0, 0);
+    sample(name, lines);
+}
+
+/* Document 02, F-11: "only row 3 is left open for gross emitters. Equal cause and referral come first as before." The release
+   before it had the same answers but for the four that are decided by row 4: it answered "another 4 0" to these. */
+static void increased(void) {
+    four_vehicles("increased-1501", 1501, 1501, 4, "fail 4 1\n1 fail 4\n");
+    four_vehicles("increased-1712", 1501, 1712, 4, "fail 4 1\n1 fail 4\n");
+    four_vehicles("increased-1713", 1501, 1713, 4, "another 4 0\n1 open 0\n");
+    four_vehicles("increased-20", 20, 1501, 2, "pass 4 1\n1 pass 4\n");
+    four_vehicles("increased-48", 48, 1501, 2, "pass 4 1\n1 pass 4\n");
+    four_vehicles("increased-49", 49, 1501, 2, "another 4 0\n1 open 0\n");
+    four_vehicles("increased-equal-cause", 20, 1501, 1, "fail 4 2\n1 open 0\n");
+    pollutant(1, 4, 1000, 0);
+    engine(1, 1501, 0, 0, 0);
+    measured(2, 20);
+    sample("increased-row-3", ANOTHER_AT_3);
+}
+
 /* A sheet of every pollutant and as many engines as there are rows. T is 0, which only the numbers of row 32 pass; run in,
    an engine at twice the limit counts for the limit. The stop comes after the decision. */
 static void longest_of(const char *name, uint32_t limit, int has_small_engine, int has_run_in) {
@@ -722,6 +749,7 @@ int main(int count, char **words) {
     corrected(0);
     corrected(1);
     finer();
+    increased();
     others();
     longest();
     refusals();
@@ -734,6 +762,7 @@ int main(int count, char **words) {
     record_size = 28;
     example();
     corrected(1);
+    increased();
     small_engines();
     run_ins();
     run_ins_on_a_line();

@@ -4,7 +4,7 @@ use native.Mathlib.Omega.{arith}
 use mathlib.Core.Path.{_≡_, refl, ap}
 use mathlib.Core.Bool.{Bool, true, cond}
 use mathlib.Core.List.{List, [], _∷_, _++_, map}
-use lib.ListN.{length, getD, take, drop}
+use lib.ListN.{length, getD, take}
 use Rattle.rules.specs.Tools.{any, all, those}
 use Rattle.arithmetic.proofs.Booleans.{or-follows, and-follows, by-test}
 
@@ -29,11 +29,6 @@ module _ {A B : Type 0} {P : A → B → Type 0} where
   pairs-take zero r = none
   pairs-take (suc n) none = none
   pairs-take (suc n) (more h r) = more h (pairs-take n r)
-
-  pub pairs-drop : {xs : List A} {ys : List B} (n : ℕ) → Pairs P xs ys → Pairs P (drop n xs) (drop n ys)
-  pairs-drop zero r = r
-  pairs-drop (suc n) none = none
-  pairs-drop (suc n) (more h r) = pairs-drop n r
 
   pub pairs-append : {xs zs : List A} {ys vs : List B} → Pairs P xs ys → Pairs P zs vs → Pairs P (xs ++ zs) (ys ++ vs)
   pairs-append none q = q

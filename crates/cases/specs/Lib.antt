@@ -6,4 +6,5 @@ pub mod Finer
 pub mod Sizes
 pub mod SmallEngines
 pub mod RunIn
+pub mod InService
 pub mod DeclaredValue

@@ -1,16 +1,17 @@
 -- The gross emitters by their causes: what comes before a row's statistics.
-use Rattle.arithmetic.proofs.Basics.{ℕ, suc, _+_, _-_, _<_, arith, _≡_, refl, sym, Bool, true, false, not, _&&_, _||_, cond, List, [], _∷_, _++_, map, leb, ltb}
-use Rattle.arithmetic.proofs.Basics.{eqb, length, getD, take, drop, length-append, take-append-drop, take-suc, length-take-le, drop-at, le-leb, never, or-true}
-use Rattle.arithmetic.proofs.Basics.{and-never, by-test, not-ltb, any-snoc, those-append}
+use Rattle.arithmetic.proofs.Basics.{ℕ, suc, _+_, _≤_, _<_, arith, _≡_, refl, sym, ap, Bool, true, false, not, _&&_, _||_, cond, List, [], _∷_, _++_, map, leb, ltb}
+use Rattle.arithmetic.proofs.Basics.{eqb, length, getD, take, drop, length-append, take-append-drop, take-suc, le-leb, never, eqb-true, eqb-false}
+use Rattle.arithmetic.proofs.Basics.{and-never, or-same, or-assoc, by-test, not-ltb, leb-same, those-append}
 use mir.Val.{boolByte}
 use Rattle.rules.specs.Tools.{any, those}
 use Rattle.rules.specs.Sheet.{Record, Pollutant, cause, gross}
 use Rattle.rules.specs.Plans.{Plan, knownDeviation, unknownDeviation, attributes, inService, corrected, Row}
 use Rattle.rules.specs.Series as rules
+use Rattle.accepted.specs.Sheets.{pollutantsIn, enginesIn}
 use Rattle.accepted.proofs.Causes.{hasCause, Caused}
 use Rattle.accepted.proofs.Sheets.{isInService}
 use Rattle.columns.specs.Columns.{turned, closes}
-use Rattle.causes.specs.Causes.{looksBy}
+use Rattle.causes.specs.Causes.{beforeIn, emitsIn, firstRow}
 
 -- ---- what is counted
 
@@ -70,36 +71,23 @@ pick a b c d = cond a rules.early (cond b rules.equalCause (cond c rules.referra
 
 -- by the causes of the first n vehicles
 abbrev pub leftBy : (n : ℕ) → (first : List Record) → Bool
-leftBy n first = ltb n 15 && any hasCause (cond (eqb n 3) first (drop (n - 1) first))
+leftBy n first = eqb n 3 && any hasCause first
 
 abbrev pub beforeBy : (n : ℕ) → (first : List Record) → rules.Before
 beforeBy n first =
     pick (ltb n 3) (rules.repeats (map cause (those hasCause first))) (eqb n 15 && leb 2 (length (those hasCause first))) (leftBy n first)
 
 module _ (ps : List Pollutant) (n : ℕ) (first : List Record) where
-  -- "at n = 3, any of the three": the vehicles that are asked for
-  caused-asked : (b t : Bool) → Caused b ps first → Caused b ps (cond t first (drop (n - 1) first))
-  caused-asked b true c = c
-  caused-asked b false c = caused-cut b ps (n - 1) first c .1
-
   -- in plans 1 to 3 and 5 there is no cause
   plain : Caused false ps first → cond (ltb n 3) rules.early rules.statistics ≡ beforeBy n first
-  plain c =
-      rw (
-        any-those hasCause (cond (eqb n 3) first (drop (n - 1) first)),
-        no-cause ps (cond (eqb n 3) first (drop (n - 1) first)) (caused-asked false (eqb n 3) c),
-        no-cause ps first c,
-        and-never (eqb n 15),
-        and-never (ltb n 15),
-      ) refl
+  plain c = rw (any-those hasCause first, no-cause ps first c, and-never (eqb n 15), and-never (eqb n 3)) refl
 
   pub before-is : (plan : Plan) → Caused (isInService plan) ps first → rules.beforeRow plan ps n first ≡ beforeBy n first
   unfolding rules.beforeRow rules.inServiceBefore
   before-is knownDeviation c = plain c
   before-is unknownDeviation c = plain c
   before-is attributes c = plain c
-  before-is inService c =
-      rw (those-gross ps first c, any-gross ps (cond (eqb n 3) first (drop (n - 1) first)) (caused-asked true (eqb n 3) c)) refl
+  before-is inService c = rw (those-gross ps first c, any-gross ps first c) refl
   before-is corrected c = plain c
 
 -- a row ends the series from row 3 on, by equal cause or referral
@@ -112,33 +100,50 @@ closes-pick false false false false = refl
 
 -- ---- a row that does not end the series is looked at, or it is open
 
-module _ (ps : List Pollutant) (es : List Record) (n : ℕ) (h : n < length es) where
-  abbrev newest : Bool
-  newest = hasCause (getD es n [])
+-- rows are looked at from 3, or from 4 where one of the first three vehicles is a gross emitter
+looked-from : (es : List Record) (n : ℕ) → not (leftBy n (take n es)) && leb 3 n ≡ leb (cond (any hasCause (take 3 es)) 4 3) n
+looked-from es n =
+    by-test (λ t. not (t && any hasCause (take n es)) && leb 3 n ≡ leb (cond (any hasCause (take 3 es)) 4 3) n) (eqb n 3)
+    (λ e. rw (eqb-true n 3 e) (by-test (λ t. not t && true ≡ leb (cond t 4 3) 3) (any hasCause (take 3 es)) (λ f. refl) (λ f. refl)))
+    (λ e. let h = eqb-false n 3 e in
+    by-test (λ t. leb 3 n ≡ leb (cond t 4 3) n) (any hasCause (take 3 es)) (λ f. leb-same 3 n 4 n ((λ l. omega arith), (λ l. omega arith))) (λ f. refl))
 
-  -- "the newest vehicle (at n = 3, any of the three) a gross emitter"
-  newest-or-any : (t : Bool) → any hasCause (cond t (take (suc n) es) (drop (suc n - 1) (take (suc n) es))) ≡ newest || t && any hasCause (take (suc n) es)
-  newest-or-any true =
-      rw (take-suc es n [] h, any-snoc hasCause (take n es) (getD es n []))
-      (by-test (λ t. any hasCause (take n es) || t ≡ t || (any hasCause (take n es) || t)) newest (λ e. or-true (any hasCause (take n es))) (λ e. refl))
-  newest-or-any false =
-      rw (take-suc es n [] h, drop-at (take n es) (getD es n [] ∷ []) (suc n - 1) (omega (arith, length-take-le n es (let k = h in omega arith)))) refl
-
-  pub row-looked : (plan : Plan) → Caused (isInService plan) ps es → closes (rules.beforeRow plan ps (suc n) (take (suc n) es)) ≡ false → (r : Row)
-      → turned (rules.beforeRow plan ps (suc n) (take (suc n) es)) (suc n) r rules.isOpen
-      ≡ cond (looksBy (suc n) newest (any hasCause (take (suc n) es))) (rules.decidedAt (suc n) r) rules.isOpen
-  unfolding looksBy
+module _ (w : ℕ) (b : List ℕ) (n : ℕ) where
+  pub row-looked : (plan : Plan) → Caused (isInService plan) (pollutantsIn w b) (enginesIn w b) → closes (beforeIn w plan b n) ≡ false → (r : Row)
+      → turned (beforeIn w plan b n) n r rules.isOpen ≡ cond (leb (firstRow w b) n) (rules.decidedAt n r) rules.isOpen
+  unfolding firstRow
   row-looked plan c e r =
-      let first : List Record = take (suc n) es in
-      let is = before-is ps (suc n) first plan (caused-cut (isInService plan) ps (suc n) es c .0) in
-      rw (is, ← (not-ltb (suc n) 3), ← (newest-or-any (eqb (suc n) 3)))
-      (cases (ltb (suc n) 3) (rules.repeats (map cause (those hasCause first))) (eqb (suc n) 15 && leb 2 (length (those hasCause first)))
-      (leftBy (suc n) first) (rw is at e))
+      let es = enginesIn w b in
+      let first : List Record = take n es in
+      let is = before-is (pollutantsIn w b) n first plan (caused-cut (isInService plan) (pollutantsIn w b) n es c .0) in
+      rw (is, ← (looked-from es n), ← (not-ltb n 3))
+      (cases (ltb n 3) (rules.repeats (map cause (those hasCause first))) (eqb n 15 && leb 2 (length (those hasCause first))) (leftBy n first) (rw is at e))
     where
       cases : (a b c d : Bool) → closes (pick a b c d) ≡ false
-          → turned (pick a b c d) (suc n) r rules.isOpen ≡ cond (not a && not d) (rules.decidedAt (suc n) r) rules.isOpen
-      cases true b c d l = refl
+          → turned (pick a b c d) n r rules.isOpen ≡ cond (not d && not a) (rules.decidedAt n r) rules.isOpen
+      cases true b c true l = refl
+      cases true b c false l = refl
       cases false true c d l = never l
       cases false false true d l = never l
       cases false false false true l = refl
       cases false false false false l = refl
+
+-- ---- the first row that is looked at
+
+-- in plans 1 to 3 and 5 there is no cause
+pub first-plain : (w : ℕ) (b : List ℕ) → Caused false (pollutantsIn w b) (enginesIn w b) → 3 ≡ firstRow w b
+unfolding firstRow
+first-plain w b c =
+    let first : List Record = take 3 (enginesIn w b) in
+    rw (any-those hasCause first, no-cause (pollutantsIn w b) first (caused-cut false (pollutantsIn w b) 3 (enginesIn w b) c .0)) refl
+
+-- in plan 4 the first three vehicles are asked, one by one
+pub first-by : (w : ℕ) (b : List ℕ) → 3 ≤ length (enginesIn w b) → cond ((emitsIn w b 0 || emitsIn w b 1) || emitsIn w b 2) 4 3 ≡ firstRow w b
+unfolding firstRow
+first-by w b h = ap (λ t. cond t 4 3) (three (enginesIn w b) h)
+  where
+    three : (es : List Record) → 3 ≤ length es → (hasCause (getD es 0 []) || hasCause (getD es 1 [])) || hasCause (getD es 2 []) ≡ any hasCause (take 3 es)
+    three [] l = absurd (omega arith)
+    three (x ∷ []) l = absurd (omega arith)
+    three (x ∷ y ∷ []) l = absurd (omega arith)
+    three (x ∷ y ∷ z ∷ es) l = rw (or-same (hasCause z), or-assoc (hasCause x) (hasCause y) (hasCause z)) refl

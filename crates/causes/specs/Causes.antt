@@ -1,13 +1,13 @@
 -- What comes before the statistics of a row as the program finds it, by the causes. proofs/Emitting shows it equal to document 01's
 -- `beforeRow`.
 use Prim.Native.Nat.{ℕ}
-use mathlib.Core.Bool.{Bool, not, _&&_, _||_}
-use mathlib.Core.List.{List, map}
-use lib.Dec.{leb, ltb, eqb}
-use lib.ListN.{length, take}
-use Rattle.rules.specs.Tools.{those}
+use mathlib.Core.Bool.{Bool, not, cond}
+use mathlib.Core.List.{List, [], map}
+use lib.Dec.{eqb}
+use lib.ListN.{length, getD, take}
+use Rattle.rules.specs.Tools.{any, those}
 use Rattle.rules.specs.Sheet.{Record, cause}
-use Rattle.rules.specs.Plans.{Plan, inService, lastRow}
+use Rattle.rules.specs.Plans.{Plan, inService}
 use Rattle.rules.specs.Series as rules
 use Rattle.accepted.specs.Sheets.{pollutantsIn, enginesIn}
 use Rattle.columns.specs.Columns as columns
@@ -25,10 +25,6 @@ emittersIn w b n = those (λ r. not (eqb (cause r) 0)) (take n (enginesIn w b))
 abbrev pub repeatsIn : (w : ℕ) → List ℕ → (n : ℕ) → Bool
 repeatsIn w b n = rules.repeats (map cause (emittersIn w b n))
 
--- whether row n is looked at, where no row so far has ended the series
-unfoldable pub looksBy : (n : ℕ) → (newest any : Bool) → Bool
-looksBy n newest any = leb 3 n && not (ltb n (lastRow inService) && (newest || eqb n 3 && any))
-
 -- the program's gate as the law's
 abbrev pub gateIs : Gate → columns.Gate
 gateIs (Open n) = columns.openAfter n
@@ -44,3 +40,11 @@ gateOf w plan b n = columns.gate (beforeIn w plan b) n
 
 abbrev pub inServiceGate : (w : ℕ) → List ℕ → (n : ℕ) → columns.Gate
 inServiceGate w b n = gateOf w inService b n
+
+-- whether the vehicle behind k engines is a gross emitter
+abbrev pub emitsIn : (w : ℕ) → List ℕ → (k : ℕ) → Bool
+emitsIn w b k = not (eqb (cause (getD (enginesIn w b) k [])) 0)
+
+-- the first row that is looked at: row 3, and row 4 where one of the first three vehicles is a gross emitter
+unfoldable pub firstRow : (w : ℕ) → List ℕ → ℕ
+firstRow w b = cond (any (λ r. not (eqb (cause r) 0)) (take 3 (enginesIn w b))) 4 3

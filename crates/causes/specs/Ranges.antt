@@ -22,3 +22,8 @@ pub record InServiceRange (w : ℕ) (b : List ℕ) (start engines : ℕ) : Type 
 pub record GateRange (w : ℕ) (b : List ℕ) (start engines : ℕ) (plan : Plan) : Type 0 where
   pub sheet : AcceptedSheet w b (planIs plan) start
   pub all : engines ≡ length (enginesIn w b)
+
+-- and of a sheet that has a row
+pub record FirstRange (w : ℕ) (b : List ℕ) (start : ℕ) (plan : Plan) : Type 0 where
+  pub sheet : AcceptedSheet w b (planIs plan) start
+  pub some : 3 ≤ length (enginesIn w b)

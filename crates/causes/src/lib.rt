@@ -7,8 +7,8 @@ ghost use Prim.Native.Nat.{_+_};
 ghost use Rattle.plan.specs.Plan.{planIs};
 ghost use Rattle.layout.specs.Sizes.{widthIs};
 ghost use Rattle.columns.specs.Columns.{rowsOf};
-ghost use Rattle.causes.specs.Causes.{equalCauses, repeatsIn, looksBy, gateIs, gateOf, inServiceGate};
-ghost use Rattle.causes.specs.Ranges.{EnginesRange, InServiceRange, GateRange};
+ghost use Rattle.causes.specs.Causes.{equalCauses, repeatsIn, emitsIn, gateIs, gateOf, inServiceGate, firstRow};
+ghost use Rattle.causes.specs.Ranges.{EnginesRange, InServiceRange, GateRange, FirstRange};
 use layout::Size;
 use plan::Plan;
 use record::cause_of;
@@ -35,13 +35,6 @@ impl Gate {
             Gate::Referral(n) => n,
         }
     }
-}
-
-// Whether row n's statistics are looked at, where no row so far has ended the series: the newest vehicle, or any so far, is a gross emitter.
-pub fn looks(n: u64, newest: bool, any: bool) -> bool
-    ensures { λ b. ⌜ b ≡ looksBy n newest any ⌝ }
-{
-    (3 <= n) & !((n < LAST_ROW) & (newest | ((n == 3) & any)))
 }
 
 // How many of the first n engines have the cause.
@@ -108,4 +101,29 @@ pub fn gate_of(size: Size, bytes: &[u8], start: usize, engines: usize, plan: Pla
         Plan::InService => in_service_gate(size, bytes, start, engines),
         Plan::Corrected => Gate::Open(engines as u8),
     }
+}
+
+// Whether the vehicle behind k engines is a gross emitter.
+fn emits(size: Size, bytes: &[u8], start: usize, k: usize) -> bool
+    requires { ⌜ EnginesRange (widthIs size) (now bytes) start (k + 1) ⌝ }
+    ensures { λ b. ⌜ b ≡ emitsIn (widthIs size) (now (bytes .entry)) k ⌝ }
+{
+    cause_of(record_at(size, bytes, start + k)) != 0
+}
+
+// The first row whose statistics are looked at, of an accepted sheet with three engines or more; 02, F-11: "only row 3 is left open for
+// gross emitters". For `statistics` alone, likewise.
+pub fn first_row(size: Size, bytes: &[u8], start: usize, plan: Plan) -> usize
+    requires { ⌜ FirstRange (widthIs size) (now bytes) start plan ⌝ }
+    ensures { λ n. ⌜ n ≡ firstRow (widthIs size) (now (bytes .entry)) ⌝ }
+{
+    if let Plan::InService = plan {
+        if emits(size, bytes, start, 0)
+            | emits(size, bytes, start, 1)
+            | emits(size, bytes, start, 2)
+        {
+            return 4;
+        }
+    }
+    3
 }

@@ -7,12 +7,12 @@ ghost use Rattle.rules.specs.Operations as rules;
 ghost use Rattle.rules.specs.Sizes.{appendSized, appendedSized, reportSized, reportedSized};
 ghost use Rattle.rules.specs.Converter.{convert, converted, addedPollutants};
 ghost use Rattle.rules.specs.DeclaredValue as approval;
-ghost use Rattle.operations.specs.Outcomes.{outcomeIs};
+ghost use Rattle.outcomes.specs.Outcomes.{outcomeIs};
 use checking::Refusal;
 use declared_value::Approval;
 use declared_value::approve;
 use layout::Size;
-use operations::Outcome;
+use outcomes::Outcome;
 
 // "gets number × 256 + record"
 fn code(outcome: Outcome) -> u32
@@ -30,7 +30,7 @@ pub extern "C" fn conformity_append(buffer: &mut [u8], used: usize, record: &[u8
     ensures { λ n. ⌜ n ≡ rules.code (rules.append pollutants (now (buffer .entry)) used (now («record» .entry))) ⌝ }
     ensures { λ _. ⌜ now (buffer .exit) ≡ rules.appended pollutants (now (buffer .entry)) used (now («record» .entry)) ⌝ }
 {
-    code(operations::append(Size::TWENTY, buffer, used, record))
+    code(appending::append(Size::TWENTY, buffer, used, record))
 }
 
 // uint32_t conformity_report(const uint8_t *sheet, size_t sheet_length, uint8_t *output, size_t output_length)
@@ -39,7 +39,7 @@ pub extern "C" fn conformity_report(sheet: &[u8], output: &mut [u8]) -> u32
     ensures { λ n. ⌜ n ≡ rules.code (rules.report pollutants (now (sheet .entry)) (now (output .entry))) ⌝ }
     ensures { λ _. ⌜ now (output .exit) ≡ rules.reported pollutants squarings (now (sheet .entry)) (now (output .entry)) ⌝ }
 {
-    code(operations::report(Size::TWENTY, sheet, output))
+    code(reporting::report(Size::TWENTY, sheet, output))
 }
 
 // uint32_t conformity_append_sized(size_t size, uint8_t *buffer, size_t buffer_length, size_t used, const uint8_t *record, size_t record_length)
@@ -53,7 +53,7 @@ pub extern "C" fn conformity_append_sized(
     ensures { λ n. ⌜ n ≡ rules.code (appendSized size (now (buffer .entry)) used (now («record» .entry))) ⌝ }
     ensures { λ _. ⌜ now (buffer .exit) ≡ appendedSized size (now (buffer .entry)) used (now («record» .entry)) ⌝ }
 {
-    code(operations::append(size, buffer, used, record))
+    code(appending::append(size, buffer, used, record))
 }
 
 // uint32_t conformity_report_sized(size_t size, const uint8_t *sheet, size_t sheet_length, uint8_t *output, size_t output_length)
@@ -62,7 +62,7 @@ pub extern "C" fn conformity_report_sized(size: usize, sheet: &[u8], output: &mu
     ensures { λ n. ⌜ n ≡ rules.code (reportSized size (now (sheet .entry)) (now (output .entry))) ⌝ }
     ensures { λ _. ⌜ now (output .exit) ≡ reportedSized size squarings (now (sheet .entry)) (now (output .entry)) ⌝ }
 {
-    code(operations::report(size, sheet, output))
+    code(reporting::report(size, sheet, output))
 }
 
 // uint32_t conformity_convert(size_t size, const uint8_t *sheet, size_t sheet_length, uint8_t *output, size_t output_length)

@@ -5,15 +5,15 @@ ghost use lib.ListN.{length, drop};
 ghost use Rattle.rules.specs.Sheet.{pollutants};
 ghost use Rattle.rules.specs.Converter as rules;
 ghost use Rattle.layout.specs.Sizes.{widthIs};
-ghost use Rattle.operations.specs.Outcomes.{outcomeIs};
+ghost use Rattle.outcomes.specs.Outcomes.{outcomeIs};
 ghost use Rattle.converting.specs.Recasting.{addedBytes, putAt, recast, PutRange, RecastRange};
 use checking::Checked;
 use checking::check_sheet;
 use layout::Named;
 use layout::Size;
-use operations::Outcome;
-use operations::checked_outcome;
-use operations::refused;
+use outcomes::Outcome;
+use outcomes::checked_outcome;
+use outcomes::refused;
 use record::record_at;
 
 // How many zeros stand behind the first 20 bytes of a record in the other size: "added bytes zero".

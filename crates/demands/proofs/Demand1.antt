@@ -2,7 +2,7 @@
 -- number 1 to 12 or 16 to 19 and a record below the greatest number of records, or judged with a verdict 0 to 3, an engine at most the
 -- last row, a ground 0 to 4 and a pair for each pollutant; a judgement only where the check accepts.
 -- Every list of bytes is meant, whatever w and q; the product's are at the end. (That "a refused call writes to no buffer" is in the
--- contracts of `operations`.)
+-- contracts of `appending` and `reporting`.)
 use Rattle.arithmetic.proofs.Basics.{ℕ, _≤_, _<_, le-trans, arith, _≡_, refl, sym, ap, _∙_, true, _⊎_, inl, inr, List, [], length}
 use Rattle.rules.specs.Logarithm.{squarings}
 use Rattle.rules.specs.Sheet.{pollutants, morePollutants, most, records, ofKind}

@@ -20,7 +20,9 @@ use Rattle.summary.specs.State.{nothing, summaryWith, misplacesOthers, misplace
 use Rattle.zeros.specs.Zeros.{unusedFromTwelve}
 use Rattle.measurements.specs.Measurements.{badMeasurementBy, badBehind}
 use Rattle.small_engines.specs.SmallEngines.{badSmallEngineBy, smallEngineFault}
-use Rattle.faults.specs.Faults.{badCauseBy, pollutantBy, pollutantFault, engineFault, asTwelve, runInFault, stopFault, unmeasuredFault, faultBy}
+use Rattle.gross_emitters.specs.GrossEmitters.{badCauseBy}
+use Rattle.declarations.specs.Declarations.{pollutantBy, pollutantFault}
+use Rattle.faults.specs.Faults.{engineFault, asTwelve, runInFault, stopFault, unmeasuredFault, faultBy}
 use Rattle.zeros.proofs.ZeroBytes.{pollutant-unused, engine-unused, stop-unused, small-engine-unused, run-in-unused}
 use Rattle.faults.proofs.Declared.{zero-quantity, quantity-with, order-last, limit-snoc, measurement-agrees, particulate-agrees, gross-agrees}
 

@@ -12,7 +12,7 @@ use Rattle.layout.specs.Sizes.{widthIs}
 use Rattle.record.specs.Quantities.{quantity, quantitiesWith}
 use Rattle.small_engines.specs.SmallEngines.{badParticulateBy}
 use Rattle.measurements.specs.Measurements.{badMeasurementBy, badBehind}
-use Rattle.faults.specs.Faults.{exceeds, grossBy}
+use Rattle.gross_emitters.specs.GrossEmitters.{exceeds, grossBy}
 
 -- ---- limits by number
 

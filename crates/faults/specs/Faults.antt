@@ -1,53 +1,17 @@
 -- The refusal of a record by what the program keeps of the records before it; proofs/Agreement: it is document 01's.
-use Prim.Native.Nat.{ℕ, _+_, _/_}
-use mathlib.Core.Bool.{Bool, false, not, _&&_, _||_, cond}
-use lib.Dec.{leb, ltb, eqb}
-use Rattle.rules.specs.Tools.{within}
-use Rattle.rules.specs.Logarithm.{greatest}
-use Rattle.rules.specs.Sheet.{Record, pollutantKind, engineKind, stopKind, smallEngineKind, runInKind, kind, number, plan, limit, deviation, cause, measurement}
-use Rattle.rules.specs.Refusals.{greatestDeviation, greatestCause}
-use Rattle.rules.specs.Plans.{knownDeviation, inService, planCount, numberOf}
-use Rattle.record.specs.declared.Quantities.{Quantities}
+use Prim.Native.Nat.{ℕ}
+use mathlib.Core.Bool.{Bool, not, _&&_, cond}
+use lib.Dec.{leb, eqb}
+use Rattle.rules.specs.Sheet.{Record, pollutantKind, engineKind, stopKind, smallEngineKind, runInKind, kind, plan}
+use Rattle.rules.specs.Plans.{inService, numberOf}
 use Rattle.layout.specs.declared.Size.{Size}
-use Rattle.layout.specs.declared.Size.the-variants.{Twenty, TwentyEight}
-use Rattle.layout.specs.Sizes.{widthIs}
-use Rattle.zeros.specs.Zeros.{unusedFromTwelve, pollutantUnused, engineUnused, stopUnused}
+use Rattle.zeros.specs.Zeros.{unusedFromTwelve, engineUnused, stopUnused}
 use Rattle.summary.specs.declared.Summary.{Summary}
 use Rattle.summary.specs.State.{misplacesOthers, misplacesRunIn}
+use Rattle.declarations.specs.Declarations.{pollutantFault}
 use Rattle.measurements.specs.Measurements.{badMeasurementBy, badBehind}
+use Rattle.gross_emitters.specs.GrossEmitters.{badCauseBy}
 use Rattle.small_engines.specs.SmallEngines.{smallEngineFault}
-
--- 3 to 7 and 12 of a pollutant, by its numbers, where there are w of them
-unfoldable pub pollutantBy : (w : ℕ) → Summary → (number plan limit deviation : ℕ) → (unused : Bool) → ℕ
-pollutantBy w s number plan limit deviation unused =
-    cond (ltb pollutantKind (s .kind)) 3
-    (cond (not (within 1 w number) || leb number (s .number)) 4
-    (cond (not (within 1 planCount plan) || not (eqb (s .kind) 0) && not (eqb plan (s .plan))) 5
-    (cond (not (within 1 greatest limit)) 6
-    (cond (eqb plan (numberOf knownDeviation) && not (within 1 greatestDeviation deviation) || not (eqb plan (numberOf knownDeviation)) && not (eqb deviation 0)) 7
-    (cond unused 12 0)))))
-
-unfoldable pub pollutantFault : Size → Summary → Record → (rest : Bool) → ℕ
-pollutantFault z s r rest = pollutantBy (widthIs z) s (number r) (plan r) (limit r) (deviation r) (pollutantUnused r rest)
-
--- 9
-abbrev pub exceeds : (limit x : ℕ) → Bool
-exceeds limit x = not (eqb limit 0) && ltb (limit + limit / 2) x
-
-abbrev pub exceedsBehind : Size → (limits : Quantities) → Record → Bool
-exceedsBehind Twenty limits r = false
-exceedsBehind TwentyEight limits r = exceeds (limits .fifth) (measurement r 5) || exceeds (limits .sixth) (measurement r 6)
-
-unfoldable pub grossBy : Size → (limits : Quantities) → Record → Bool
-grossBy z limits r =
-    exceeds (limits .co) (measurement r 1)
-    || exceeds (limits .hc) (measurement r 2)
-    || exceeds (limits .nox) (measurement r 3)
-    || exceeds (limits .pm) (measurement r 4)
-    || exceedsBehind z limits r
-
-unfoldable pub badCauseBy : Size → Summary → Record → Bool
-badCauseBy z s r = cond (eqb (s .plan) (numberOf inService) && grossBy z (s .limits) r) (not (within 1 greatestCause (cause r))) (not (eqb (cause r) 0))
 
 -- 3, 8, 9, 10 and 12 of an engine
 unfoldable pub engineFault : Size → Summary → Record → ℕ

@@ -13,8 +13,8 @@ fn present(r: &[u8], i: usize) -> u32
     r[i] as u32
 }
 
-// The number in bytes i and i + 1 of bytes that have them. For this crate and `record`, which reads where the sheet lies: so it may require.
-pub fn u16_present(r: &[u8], i: usize) -> u32
+// The number in bytes i and i + 1 of bytes that have them.
+fn u16_present(r: &[u8], i: usize) -> u32
     requires { ⌜ ByteRange i 2 (length (now r)) ⌝ }
     ensures { λ n. ⌜ (n ≡ two (now (r .entry)) i) × (n < 65536) ⌝ }
 {

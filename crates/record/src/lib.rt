@@ -11,7 +11,6 @@ ghost use Rattle.record.specs.Quantities.{quantitiesWith};
 use layout::Size;
 use numbers::byte_at;
 use numbers::u16_at;
-use numbers::u16_present;
 use numbers::u32_at;
 use numbers::u32_present;
 
@@ -128,12 +127,4 @@ pub fn measurement_at(size: Size, sheet: &[u8], k: usize, p: u32) -> u32
     ensures { λ n. ⌜ n ≡ measurement (recordAt (widthIs size) (now (sheet .entry)) k) p ⌝ }
 {
     u32_present(sheet, size.bytes() * k + 4 * (p as usize))
-}
-
-// The cause in record k of a sheet, likewise. For `statistics` alone: so it may require.
-pub fn cause_at(size: Size, sheet: &[u8], k: usize) -> u32
-    requires { ⌜ RecordRange (widthIs size) k (length (now sheet)) ⌝ }
-    ensures { λ n. ⌜ (n ≡ cause (recordAt (widthIs size) (now (sheet .entry)) k)) × (n < 65536) ⌝ }
-{
-    u16_present(sheet, size.bytes() * k + 2)
 }

@@ -1,10 +1,10 @@
 -- Document 01, "The series": rows from 3, all declared pollutants together, and what judging answers; and document 02, F-2: the correction
 -- by the run-in values.
-use Prim.Native.Nat.{ℕ, zero, suc, _-_}
+use Prim.Native.Nat.{ℕ, zero, suc}
 use mathlib.Core.Bool.{Bool, true, false, _&&_, _||_, cond}
 use mathlib.Core.List.{List, [], _∷_, map}
 use lib.Dec.{leb, ltb, eqb}
-use lib.ListN.{length, getD, take, drop}
+use lib.ListN.{length, getD, take}
 use Rattle.rules.specs.Tools.{any, all, those}
 use Rattle.rules.specs.Sheet.{Record, Pollutant, numbers, measurement, cause, gross, engines, runIns, stopped, declared, planNumber}
 use Rattle.rules.specs.Logarithm.{Correction, uncorrected}
@@ -27,7 +27,7 @@ pub data Series : Type 0 where
   failed : (engine ground : ℕ) → List Standing → Series
   referred : (engine : ℕ) → List Standing → Series
 
--- ---- plan 4, "Before a row's statistics, in order"
+-- ---- plan 4, "Before a row's statistics, in order"; 02, F-11: "Equal cause and referral come first as before."
 
 pub data Before : Type 0 where
   early equalCause referral leftOpen statistics : Before
@@ -38,12 +38,13 @@ repeats [] = false
 repeats (x ∷ xs) = any (eqb x) xs || repeats xs
 
 -- "two gross emitters of equal cause among the first n: the series fails. n = 15 and two or more gross emitters: referred to the
--- authority. n < 15 and the newest vehicle (at n = 3, any of the three) a gross emitter: the row is open for every pollutant."
+-- authority."; 02, F-11: "The authorities now run the statistics on every increased sample (document 000, 3.5), so only row 3 is left
+-- open for gross emitters."
 unfoldable pub inServiceBefore : List Pollutant → (n : ℕ) → (first : List Record) → Before
 inServiceBefore ps n first =
     cond (repeats (map cause (those (gross ps) first))) equalCause
     (cond (eqb n 15 && leb 2 (length (those (gross ps) first))) referral
-    (cond (ltb n 15 && any (gross ps) (cond (eqb n 3) first (drop (n - 1) first))) leftOpen statistics))
+    (cond (eqb n 3 && any (gross ps) first) leftOpen statistics))
 
 abbrev pub planBefore : Plan → List Pollutant → (n : ℕ) → (first : List Record) → Before
 planBefore knownDeviation ps n first = statistics

@@ -1,8 +1,8 @@
 -- Two records that read the same at every place, past their ends too, where a byte counts as 0: a record and its widened form are such.
 -- Every field, every fault and every row is the same.
-use Rattle.arithmetic.proofs.Basics.{ℕ, zero, suc, _+_, _-_, _*_, _≡_, refl, sym, ap, Bool, true, false, not, _||_, cond, List, [], _∷_, _++_, map, ltb, eqb}
+use Rattle.arithmetic.proofs.Basics.{ℕ, zero, suc, _+_, _-_, _*_, _≡_, refl, sym, ap, Bool, not, _||_, List, [], _∷_, _++_, map, ltb, eqb}
 use Rattle.arithmetic.proofs.Basics.{length, getD, take, drop, replicate, any-part, any-same}
-use Rattle.arithmetic.proofs.Pairs.{Pairs, none, more, pairs-length, pairs-take, pairs-drop, pairs-follow, pairs-those, same-map, same-any}
+use Rattle.arithmetic.proofs.Pairs.{Pairs, none, more, pairs-length, pairs-take, pairs-follow, pairs-those, same-map, same-any}
 use Rattle.rules.specs.Tools.{any, those, byte, two, four}
 use Rattle.rules.specs.Sheet.{Record, Pollutant, size, numbers, pollutantKind, engineKind, stopKind, smallEngineKind, runInKind, kind, number, plan}
 use Rattle.rules.specs.Sheet.{limit, deviation, cause, measurement, volume, speed, date, ofKind, engines, heading, stopped, planNumber, pollutant, declared, gross}
@@ -204,16 +204,12 @@ module _ (a b : Record) (s : SameBytes a b) where
 
 -- ---- the series
 
-same-cond : (t : Bool) {es fs gs hs : List Record} → Pairs SameBytes es fs → Pairs SameBytes gs hs → Pairs SameBytes (cond t es gs) (cond t fs hs)
-same-cond true r q = r
-same-cond false r q = q
-
 same-inService : (ps : List Pollutant) (n : ℕ) {es fs : List Record} → Pairs SameBytes es fs → inServiceBefore ps n es ≡ inServiceBefore ps n fs
 unfolding inServiceBefore
 same-inService ps n {es} {fs} r =
     let i : (a b : Record) → SameBytes a b → gross ps a ≡ gross ps b = λ a b s. same-gross a b s ps in
     let g : Pairs SameBytes (those (gross ps) es) (those (gross ps) fs) = same-those (gross ps) i r in
-    rw (same-map cause cause same-cause g, pairs-length g, same-any (gross ps) (gross ps) i (same-cond (eqb n 3) r (pairs-drop (n - 1) r))) refl
+    rw (same-map cause cause same-cause g, pairs-length g, same-any (gross ps) (gross ps) i r) refl
 
 same-before : (plan : Plan) (ps : List Pollutant) (n : ℕ) {es fs : List Record} → Pairs SameBytes es fs → beforeRow plan ps n es ≡ beforeRow plan ps n fs
 unfolding beforeRow

@@ -1,21 +1,21 @@
 -- A column by running sums: what its loop keeps, and what a row makes of it.
-use Rattle.arithmetic.proofs.Basics.{ℕ, zero, suc, _+_, _*_, _≤_, _<_, le-trans, mul-le-mul-left, mul-le-mul-right, arith, add-one, _≡_, refl, sym, _∙_, Bool, true, not, _||_, cond, List, [], _∷_, _++_}
-use Rattle.arithmetic.proofs.Basics.{leb, ltb, eqb, length, getD, take, length-map, take-suc, length-take-le, lt-ltb, le-ltb, leb-true, and-true, any-snoc}
+use Rattle.arithmetic.proofs.Basics.{ℕ, zero, suc, _+_, _*_, _≤_, _<_, le-trans, mul-le-mul-left, mul-le-mul-right, arith, add-one, _≡_, refl, sym, _∙_, cond, List, [], _∷_, _++_}
+use Rattle.arithmetic.proofs.Basics.{leb, ltb, eqb, length, getD, take, length-map, take-suc, length-take-le, lt-ltb, le-ltb, by-test}
 use Rattle.arithmetic.proofs.Basics.{map-append, length-those}
 use mir.Val.{boolByte}
 use Rattle.rules.specs.Tools.{any}
 use Rattle.rules.specs.Logarithm.{squarings, g}
-use Rattle.rules.specs.Sheet.{Record, size, records, cause, measurement}
+use Rattle.rules.specs.Sheet.{Record, size, records, measurement}
 use Rattle.rules.specs.Plans as plans
 use Rattle.rules.specs.Plans.{countOver}
 use Rattle.rules.specs.Series as rules
-use Rattle.accepted.specs.Sheets.{recordAt, pollutantsIn, runInsIn, enginesIn}
+use Rattle.accepted.specs.Sheets.{recordAt, runInsIn, enginesIn}
 use Rattle.accepted.proofs.Causes.{hasCause}
 use Rattle.accepted.proofs.Ranges.{InRange, number-in, measurements-in}
 use Rattle.accepted.proofs.Sheets.{clean, engine-is, caused, rows-fit, last-most, inside, few, record-inside}
 use Rattle.columns.proofs.Cut.{Column, is-column, column-start, column-next, passed-stays, failed-stays}
 use Rattle.columns.proofs.Gates.{gate-free, gate-most}
-use Rattle.causes.specs.Causes.{looksBy, beforeIn}
+use Rattle.causes.specs.Causes.{beforeIn, firstRow}
 use Rattle.causes.proofs.Emitting.{row-looked}
 use Rattle.corrections.specs.Corrections.{correctionIn}
 use Rattle.corrections.proofs.Correcting.{each-row}
@@ -28,14 +28,14 @@ use Rattle.rows.specs.declared.Row.the-variants as row
 use Rattle.rows.specs.Row.{rowIs}
 use Rattle.decisions.specs.declared.Decision.the-variants.{Open, Passed, Failed}
 use Rattle.statistics.specs.Column.{columnIs, ColumnIs, measurementsOf, SumsOf}
-use Rattle.statistics.specs.Fours.{MeasuredRange}
+use Rattle.fours.specs.Fours.{MeasuredRange}
 use Rattle.statistics.specs.Ranges.{ColumnRange}
 use Rattle.statistics.proofs.Sums.{sum-snoc, squares-snoc, count-snoc}
 
 -- rows are looked at from 3
-pub late : (n : ℕ) (newest some : Bool) {u : Bool} → u ≡ looksBy n newest some → u ≡ true → 3 ≤ n
-unfolding looksBy
-late n newest some e t = leb-true 3 n (and-true (leb 3 n) _ (sym e ∙ t) .0)
+pub late : (w : ℕ) (b : List ℕ) → 3 ≤ firstRow w b
+unfolding firstRow
+late w b = by-test (λ t. 3 ≤ cond t 4 3) (any hasCause (take 3 (enginesIn w b))) (λ e. omega arith) (λ e. omega arith)
 
 -- ---- the column of the pollutant p, its limit L and its deviation t
 
@@ -78,10 +78,9 @@ module _ (w : ℕ) (plan : Plan) (b : List ℕ) (p L t : ℕ) where
   pub none-tells : {n rows : ℕ} → n ≤ rows → rows ≤ n → columnIs w plan b p L t n ≡ rules.isOpen → ColumnIs w plan b p L t rows Open
   none-tells {n} {rows} h k e = let z : n ≡ rows = omega arith in record { declared = refl; decides = rw (← z) (sym e) }
 
--- after n rows: the sums, and whether there was a gross emitter
-pub record Sums (w : ℕ) (b : List ℕ) (p L n gain level sum squares : ℕ) (some : Bool) : Type 0 where
-  pub sums : SumsOf L (correctionIn w b p) (measurementsOf w b p n) n sum squares gain level
-  pub someIs : some ≡ any hasCause (take n (enginesIn w b))
+-- the sums after n rows
+abbrev pub Sums : (w : ℕ) → List ℕ → (p L n gain level sum squares : ℕ) → Type 0
+Sums w b p L n gain level sum squares = SumsOf L (correctionIn w b p) (measurementsOf w b p n) n sum squares gain level
 
 measurement-in : (p : ℕ) (es : List Record) → InRange p es → (i : ℕ) → i < length es → Measured (measurement (getD es i []) p)
 measurement-in p [] r i h = absurd (omega arith)
@@ -149,32 +148,27 @@ module _ {w : ℕ} {b : List ℕ} {start : ℕ} {plan : Plan} {p L t rows : ℕ}
     over-more f e = let c = correctionIn w b p in rw (e, add-one n, more, count-snoc L c (measurementsOf w b p n) (measurement r p), f) refl
 
     -- plans 1, 2, 4 and 5
-    module _ {gain level sum squares : ℕ} {some : Bool} (f : Sums w b p L n gain level sum squares some) {x y : ℕ} (xe : x ≡ cause r) (ye : y ≡ g squarings (measurement r p)) where
-      pub sums-more : Sums w b p L (n + 1) gain level (sum + y) (squares + y * y) (some || not (eqb x 0))
-      sums-more =
-          rw (ye, xe, add-one n)
-          (record {
-            sums = record {
-              count = sym (counted (omega arith));
-              sumIs = rw (more, sum-snoc (measurementsOf w b p n) (measurement r p), f .sums .sumIs) refl;
-              squaresIs = rw (more, squares-snoc (measurementsOf w b p n) (measurement r p), f .sums .squaresIs) refl;
-              gainIs = f .sums .gainIs;
-              levelIs = f .sums .levelIs;
-            };
-            someIs = rw (first, any-snoc hasCause (take n (enginesIn w b)) r, f .someIs) refl;
-          })
+    pub sums-more : {gain level sum squares : ℕ} → Sums w b p L n gain level sum squares → {y : ℕ} → y ≡ g squarings (measurement r p)
+        → Sums w b p L (n + 1) gain level (sum + y) (squares + y * y)
+    sums-more f e =
+        rw (e, add-one n)
+        (record {
+          count = sym (counted (omega arith));
+          sumIs = rw (more, sum-snoc (measurementsOf w b p n) (measurement r p), f .sumIs) refl;
+          squaresIs = rw (more, squares-snoc (measurementsOf w b p n) (measurement r p), f .squaresIs) refl;
+          gainIs = f .gainIs;
+          levelIs = f .levelIs;
+        })
 
-      -- what row n + 1 makes of a column that is open, where it is looked at and where not
-      pub row-more : columnIs w plan b p L t n ≡ rules.isOpen → {u : Bool} → u ≡ looksBy (n + 1) (not (eqb x 0)) (some || not (eqb x 0))
-          → columnIs w plan b p L t (n + 1) ≡ cond u (rules.decidedAt (n + 1) (says w plan b p L t (n + 1))) rules.isOpen
-      row-more o ue =
-          let some-more : any hasCause (take (suc n) (enginesIn w b)) ≡ some || hasCause r = rw (first, any-snoc hasCause (take n (enginesIn w b)) r, f .someIs) refl in
-          let looked =
-          row-looked (pollutantsIn w b) (enginesIn w b) n in-list (planIs plan) (caused (range .sheet))
-          (gate-free (beforeIn w (planIs plan) b) (length (enginesIn w b)) n (omega arith)) (says w plan b p L t (suc n)) in
-          rw (ue, xe, add-one n)
-          (column-next (beforeIn w (planIs plan) b) (says w plan b p L t) n
-          ∙ (rw o (rw (engine-is (range .sheet) n in-list, some-more) at looked)))
+    -- what row n + 1 makes of a column that is open, where it is looked at and where not
+    pub row-more : columnIs w plan b p L t n ≡ rules.isOpen → {first : ℕ} → first ≡ firstRow w b
+        → columnIs w plan b p L t (n + 1) ≡ cond (leb first (n + 1)) (rules.decidedAt (n + 1) (says w plan b p L t (n + 1))) rules.isOpen
+    row-more o e =
+        rw (e, add-one n)
+        (column-next (beforeIn w (planIs plan) b) (says w plan b p L t) n
+        ∙ (rw o
+        (row-looked w b (suc n) (planIs plan) (caused (range .sheet))
+        (gate-free (beforeIn w (planIs plan) b) (length (enginesIn w b)) n (omega arith)) (says w plan b p L t (suc n)))))
 
 -- what row n + 1 of plan 3 makes of a column that is open, where so many engines are over the limit
 pub count-makes : (w : ℕ) (b : List ℕ) (p L t n : ℕ) → 3 ≤ n + 1 → columnIs w Attributes b p L t n ≡ rules.isOpen

@@ -1,3 +1,2 @@
 pub mod Column
-pub mod Fours
 pub mod Ranges

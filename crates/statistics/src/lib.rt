@@ -4,7 +4,6 @@ ghost use Rattle.statistics.specs.Column.{ColumnIs};
 ghost use Rattle.statistics.specs.Ranges.{ColumnRange};
 
 mod count;
-mod fours;
 mod logarithms;
 
 use corrections::correction_of;

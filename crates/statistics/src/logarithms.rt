@@ -4,15 +4,14 @@ ghost use Rattle.layout.specs.Sizes.{widthIs};
 ghost use Rattle.tables.specs.Tables.{Lent};
 ghost use Rattle.statistics.specs.Column.{ColumnIs, RowFrom};
 ghost use Rattle.statistics.specs.Ranges.{RowRange, LogarithmsRange};
-use crate::fours::four_with;
-use crate::fours::put_four;
-use causes::looks;
+use causes::first_row;
 use corrections::Correction;
 use corrections::log2_of;
 use decisions::Decision;
+use fours::four_with;
+use fours::put_four;
 use layout::Size;
 use plan::Plan;
-use record::cause_at;
 use rows::Row;
 
 // What row n of the plan says by the sums, where each d_j is a measurement's logarithm + gain − level; `table` is the plan's, lent.
@@ -56,23 +55,21 @@ pub(crate) fn column(
     requires { ⌜ Lent (planIs plan) (now table) ⌝ }
     ensures { λ d. ⌜ ColumnIs (widthIs size) plan (now (bytes .entry)) number limit deviation rows d ⌝ }
 {
+    let first = first_row(size, bytes, start, plan);
     let mut logs = [0u32; 4];
     put_four(&mut logs, limit, size, bytes, start, number, rows, 0);
     let gain = log2_of(correction.value) as u64;
     let level = logs[0] as u64 + log2_of(correction.first) as u64;
     let mut sum: u64 = 0;
     let mut squares: u64 = 0;
-    let mut any = false;
     let mut n: usize = 0;
     while n < rows {
-        let newest = cause_at(size, bytes, start + n) != 0;
         four_with(&mut logs, size, bytes, start, number, rows, n);
         n += 1;
         let y = logs[n % 4] as u64;
         sum = sum + y;
         squares = squares + y * y;
-        any = any | newest;
-        if looks(n as u64, newest, any) {
+        if first <= n {
             let row = row(
                 plan,
                 n as u64,

@@ -55,7 +55,7 @@ pub fn series(paper: &Paper, cell: Cell, stand: Stand, random: &mut Random) -> O
     })
 }
 
-/// Two kinds of line have no series on them with W above zero.
+/// Two kinds of line have no series on them with W above zero and without gross emitters.
 /// - At n = 3, W is twice a number x^2 + xy + y^2, in which 2 has an even power, so that in W it has
 ///   an odd one, as in no square.
 /// - On the fail line of plan 4 at n = 4, p is 768,627 and q is 100,000. The sum of the squares is

@@ -1,6 +1,6 @@
-//! The rows of the plans for one pollutant, without gross emitters and without a stop, with run-in
-//! values (F-2) or without: the table of decision numbers as docs/FORMAT.md prints it, and document
-//! 01's rules in 128-bit integers.
+//! The rows of the plans for one pollutant, without a stop, with run-in values (F-2) or without, and
+//! with gross emitters of different causes (F-11) that refer no series: the table of decision
+//! numbers as docs/FORMAT.md prints it, and document 01's rules in 128-bit integers.
 //! It chooses the sheets that stand on a line and says what has to be answered to them, so that
 //! neither implementation under test chooses what it is asked. Only g is the second
 //! implementation's: the g of every m that can be measured is compared with the library's.
@@ -70,6 +70,9 @@ pub struct Sums {
     squares: i128,
     /// c, "engines with x > L".
     over: i128,
+    /// "A gross emitter is a vehicle with 2x > 3L", in plan 4, and how many there are.
+    thrice_limit: Option<i128>,
+    gross: usize,
 }
 
 /// A report, with zeros behind one that is shorter.
@@ -154,7 +157,9 @@ impl Paper {
     /// "A row gives pass, fail or open; pass is tested first. In the last row, what doesn't pass
     /// fails."
     pub fn row(&self, plan: u8, sums: &Sums) -> Decision {
-        if sums.n < 3 {
+        assert!(sums.n < 15 || sums.gross < 2, "referral is no row's answer");
+        // F-11: "only row 3 is left open for gross emitters".
+        if sums.n < 3 || sums.n == 3 && sums.gross > 0 {
             return Decision::Open;
         }
         let numbers = self.numbers(plan, sums.n);
@@ -234,8 +239,8 @@ impl Single {
         };
         let mut draft = Draft::new(size, self.plan, vec![pollutant]);
         draft.run_in = self.run_in.map(|value| measured_alone(number, value));
-        for &x in &self.measurements {
-            draft.test(measured_alone(number, x), 0);
+        for (cause, &x) in (1..).zip(&self.measurements) {
+            draft.test(measured_alone(number, x), cause);
         }
         draft.bytes()
     }
@@ -280,6 +285,8 @@ impl Sums {
             d: 0,
             squares: 0,
             over: 0,
+            thrice_limit: (series.plan == 4).then(|| 3 * i128::from(series.limit)),
+            gross: 0,
         }
     }
 
@@ -304,11 +311,13 @@ impl Sums {
 
     fn with_measured(self, x: u32) -> Self {
         let d = logarithm(x) - self.level;
+        let is_gross = |line| 2 * i128::from(x) > line;
         Sums {
             n: self.n + 1,
             d: self.d + d,
             squares: self.squares + d * d,
             over: self.over + i128::from(i128::from(x) * self.times > self.product),
+            gross: self.gross + usize::from(self.thrice_limit.is_some_and(is_gross)),
             ..self
         }
     }

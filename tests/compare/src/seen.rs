@@ -10,7 +10,7 @@ use crate::clauses::{CLAUSES, ENDS, PLACES_OF_ENDS};
 use crate::corpus::{Exact, LineSeries, EXACT_IN_CELL};
 use crate::draft::{plans_of_production, RUN_IN, SMALL_ENGINE};
 use crate::exact::{has_series_on_line, Stand};
-use crate::pairs::Search;
+use crate::pairs::{Search, Sort};
 use crate::paper::{Cell, Line};
 use crate::refusals::OF_RECORD;
 use crate::tally::{Kinds, Tally};
@@ -318,19 +318,21 @@ impl Seen {
     }
 }
 
-/// The tables of pairs, without run-in values and with them: a dash where no series can decide.
+/// The tables of pairs, by the sort of their sheets: a dash where no series can decide.
 pub fn print_pairs(series: &LineSeries, tally: &mut Tally) {
-    println!("pairs on a line (plan, row, pass, fail; = where pass and fail share the line)");
-    let count = |cell, run_in| {
-        let search = Search { cell, run_in };
-        let pairs = series.pairs.iter();
-        vec![pairs.filter(|pair| pair.search == search).count()]
+    let count = |cell, sort: Sort| {
+        let search = Search { cell, sort };
+        let pairs = series.pairs.iter().filter(|pair| pair.search == search);
+        sort.decides(cell).then(|| vec![pairs.count()])
     };
-    print_table(series, 1..=PLANS, 1, tally, |cell| count(cell, false));
+    println!("pairs on a line (plan, row, pass, fail; = where pass and fail share the line)");
+    print_table(series, 1..=PLANS, 1, tally, |cell| count(cell, Sort::Plain));
     println!("pairs on a line, on run-in sheets");
     print_table(series, plans_of_production(), 1, tally, |cell| {
-        count(cell, true)
+        count(cell, Sort::RunIn)
     });
+    println!("pairs on a line, with a gross emitter newest");
+    print_table(series, [4], 1, tally, |cell| count(cell, Sort::GrossNewest));
     println!("  {} pairs, each parted in either size", series.pairs.len());
 }
 
@@ -340,9 +342,8 @@ pub fn print_pairs(series: &LineSeries, tally: &mut Tally) {
 pub fn print_exact(series: &LineSeries, tally: &mut Tally) {
     println!("series with the last W that decides/one unit beyond, by plan, row and line");
     print_table(series, UNKNOWN_DEVIATION, EXACT_IN_CELL, tally, |cell| {
-        [Stand::Deciding, Stand::Beyond]
-            .map(|stand| count_exact(series, cell, stand))
-            .into()
+        let stands = [Stand::Deciding, Stand::Beyond];
+        Some(stands.map(|stand| count_exact(series, cell, stand)).into())
     });
     let found = |cell: &Cell| count_exact(series, *cell, Stand::OnLine) > 0;
     for plan in UNKNOWN_DEVIATION {
@@ -383,20 +384,20 @@ fn count_exact(series: &LineSeries, cell: Cell, stand: Stand) -> usize {
 }
 
 /// A line for each row of the plans, with the counts of its cells, which have to be at least so
-/// many.
+/// many where there can be any.
 fn print_table(
     series: &LineSeries,
     plans: impl IntoIterator<Item = u8>,
     least: usize,
     tally: &mut Tally,
-    counts: impl Fn(Cell) -> Vec<usize>,
+    counts: impl Fn(Cell) -> Option<Vec<usize>>,
 ) {
     let cells = series.paper.cells();
     let mut shown = |cell: Cell| {
         if !cells.contains(&cell) {
             return None;
         }
-        let counts = counts(cell);
+        let counts = counts(cell)?;
         if counts.iter().any(|&count| count < least) {
             tally.gap(&format!("{least} in {cell:?}, only {counts:?}"));
         }

@@ -1,5 +1,5 @@
 //! Plan 4's own rules as directed sheets: gross emitters of equal and of different cause at every
-//! place, referral, and rows left open.
+//! place, referral, and row 3 left open (F-11).
 
 use crate::draft::{Draft, Pollutant};
 use random::Random;

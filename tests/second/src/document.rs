@@ -454,7 +454,7 @@ pub trait Document {
 
     /// Plan 4: "Before a row's statistics, in order: two gross emitters of equal cause among the
     /// first n: the series fails. n = 15 and two or more gross emitters: referred to the
-    /// authority."
+    /// authority." F-11: "Equal cause and referral come first as before."
     fn before_statistics(&self, n: usize, gross: &GrossEmitters) -> Option<Ending> {
         if gross.equal_cause {
             Some((Verdict::Fail, Ground::EqualCause))
@@ -475,10 +475,10 @@ pub trait Document {
         n == 15 && gross >= 2
     }
 
-    /// "n < 15 and the newest vehicle (at n = 3, any of the three) a gross emitter: the row is
-    /// open for every pollutant."
+    /// F-11: "The authorities now run the statistics on every increased sample [..], so only row 3
+    /// is left open for gross emitters."
     fn is_left_open(&self, n: usize, gross: &GrossEmitters) -> bool {
-        n < 15 && (gross.newest || n == 3 && gross.count > 0)
+        n == 3 && gross.count > 0
     }
 
     /// What ends the series "before a row's statistics" keeps them from being looked at.

@@ -99,8 +99,8 @@ type Standings = [Option<Standing>; MOST_POLLUTANTS];
 /// The gross emitters among the vehicles so far, under plan 4.
 pub struct GrossEmitters {
     causes: [u16; 15],
+    places: [usize; 15],
     pub count: usize,
-    pub newest: bool,
     pub equal_cause: bool,
 }
 
@@ -124,7 +124,7 @@ pub(crate) fn walk<D: Document + ?Sized>(document: &D, series: &Series) -> Judge
                 standing.add(document, series.plan, n, x);
             }
         }
-        gross.add(document, engine);
+        gross.add(document, n, engine);
         if !document.is_row(n) {
             continue;
         }
@@ -286,20 +286,25 @@ impl GrossEmitters {
     fn none() -> Self {
         GrossEmitters {
             causes: [0; 15],
+            places: [0; 15],
             count: 0,
-            newest: false,
             equal_cause: false,
         }
     }
 
-    /// A checked vehicle is a gross emitter just when its cause is not zero.
-    fn add<D: Document + ?Sized>(&mut self, document: &D, vehicle: &Record) {
+    /// Vehicle n, checked, is a gross emitter just when its cause is not zero.
+    fn add<D: Document + ?Sized>(&mut self, document: &D, n: usize, vehicle: &Record) {
         let cause = document.cause(vehicle);
-        self.newest = cause != 0;
-        if self.newest {
+        if cause != 0 {
             self.equal_cause |= document.is_equal_cause(&self.causes[..self.count], cause);
             self.causes[self.count] = cause;
+            self.places[self.count] = n;
             self.count += 1;
         }
+    }
+
+    /// Whether vehicle n is one, which wrong readings ask for.
+    pub fn has(&self, n: usize) -> bool {
+        self.places[..self.count].contains(&n)
     }
 }

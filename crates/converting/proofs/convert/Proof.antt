@@ -9,8 +9,8 @@ use Rattle.layout.specs.Sizes.{widthIs}
 use Rattle.layout.proofs.Sizes.{width-range, no-size, size-is}
 use Rattle.checking.specs.Check.{Valid}
 use Rattle.checking.proofs.Laws.{accepted-sheet, refused-sheet}
-use Rattle.operations.specs.Outcomes.{outcomeIs, checkIs}
-use Rattle.operations.proofs.Appending.{kept}
+use Rattle.outcomes.specs.Outcomes.{outcomeIs, checkIs}
+use Rattle.outcomes.proofs.Kept.{kept}
 use Rattle.converting.specs.Recasting.{addedBytes}
 use Rattle.converting.proofs.Answering.{size-refused, sheet-refused, narrowing-refused, output-refused, carried}
 use Rattle.converting.proofs.convert.Statement.{statement}

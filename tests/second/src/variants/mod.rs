@@ -15,6 +15,7 @@ mod before_f_9;
 mod convert;
 mod declared;
 mod families;
+mod increased_sample;
 mod new_kind;
 mod probe;
 mod report;

@@ -1,5 +1,6 @@
 //! Wrong readings that are seen in what report and append answer.
 
+use super::increased_sample::increased_sample;
 use super::{wrong, Number, OldUnits, SixteenSteps, Wrong};
 use crate::check::{Record, Refusal, Series};
 use crate::document::{Document, Document01, PLANS};
@@ -14,6 +15,7 @@ pub fn report_and_append() -> Vec<Wrong> {
     all.extend(plans_1_and_2());
     all.extend(plan_3());
     all.extend(plan_4());
+    all.extend(increased_sample());
     all.extend(plan_5());
     all.extend(pass_numbers_above_zero());
     all.extend(stops());
@@ -309,24 +311,6 @@ fn plan_4() -> Vec<Wrong> {
             "plan 4: one gross emitter at 15 is referred",
             fn is_referred(&self, n: usize, gross: usize) -> bool {
                 n == 15 && gross >= 1
-            }
-        ),
-        wrong!(
-            "plan 4: only the newest vehicle looked at, also at 3",
-            fn is_left_open(&self, n: usize, gross: &GrossEmitters) -> bool {
-                n < 15 && gross.newest
-            }
-        ),
-        wrong!(
-            "plan 4: any gross emitter leaves a row open",
-            fn is_left_open(&self, n: usize, gross: &GrossEmitters) -> bool {
-                n < 15 && gross.count > 0
-            }
-        ),
-        wrong!(
-            "plan 4: a gross emitter at 15 leaves the row open",
-            fn is_left_open(&self, n: usize, gross: &GrossEmitters) -> bool {
-                gross.newest || n == 3 && gross.count > 0
             }
         ),
         wrong!(

@@ -12,7 +12,7 @@ use Rattle.plan.specs.declared.Plan.the-variants.{Attributes}
 use Rattle.rows.specs.declared.Row.{Row}
 use Rattle.corrections.specs.Corrections.{correctionIn}
 use Rattle.statistics.specs.Column.{columnIs, measurementsOf}
-use Rattle.statistics.specs.Fours.{measuredAt}
+use Rattle.fours.specs.Fours.{measuredAt}
 use Rattle.statistics.proofs.Going.{column-none, early-open, Tells, tells, none-tells, in-engines, measured-range, place-fits, place-inside, over-fits, over-more, count-makes}
 use Rattle.statistics.proofs.count.column.Statement.{statement}
 use Rattle.statistics.proofs.count.column.Tie as tie
