@@ -121,7 +121,7 @@ pub fn measurement_of(r: &[u8], p: u32) -> u32
 }
 
 // The measurement of pollutant p in record k of a sheet, where the sheet lies: a column is read record after record, and no record is asked how long it is.
-// For `statistics` alone, which asks for engines and run-in values of an accepted sheet: so it may require.
+// For `fours` and `corrections`, which ask for engines and run-in values of an accepted sheet: so it may require.
 pub fn measurement_at(size: Size, sheet: &[u8], k: usize, p: u32) -> u32
     requires { ⌜ MeasurementRange (widthIs size) k p (length (now sheet)) ⌝ }
     ensures { λ n. ⌜ n ≡ measurement (recordAt (widthIs size) (now (sheet .entry)) k) p ⌝ }

@@ -1,5 +1,5 @@
 -- Document 01, "The series": rows from 3, all declared pollutants together, and what judging answers; and document 02, F-2: the correction
--- by the run-in values.
+-- by the run-in values, and F-11: the row that is left open in plan 4.
 use Prim.Native.Nat.{ℕ, zero, suc}
 use mathlib.Core.Bool.{Bool, true, false, _&&_, _||_, cond}
 use mathlib.Core.List.{List, [], _∷_, map}
