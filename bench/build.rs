@@ -12,6 +12,7 @@ fn main() {
             "conformity_append",
             "conformity_append_sized",
             "conformity_convert",
+            "conformity_finding",
             "conformity_report",
             "conformity_report_sized",
         ],

@@ -9,8 +9,9 @@
 
 enum { RECORD = 20, LONGEST_SHEET = 780, POLLUTANTS = 4, PLANS = 5, LARGEST = 9999999 };
 enum { POLLUTANT = 1, ENGINE = 2, STOP = 3, SMALL_ENGINE = 5, RUN_IN = 6 };
-enum { OPEN = 0, PASS = 1, FAIL = 2, REFERRED = 3 };
-enum { BY_ROW = 1, BY_EQUAL_CAUSE = 2, BY_STOP = 3, BY_REFERRAL = 4 };
+enum { OPEN = 0, PASS = 1, FAIL = 2, REFERRED = 3, HELD = 4 };
+enum { BY_ROW = 1, BY_EQUAL_CAUSE = 2, BY_STOP = 3, BY_REFERRAL = 4, BY_PENDING = 5 };
+enum { PENDING = 65535 };
 
 static const int last_rows[PLANS + 1] = {[1] = 32, [2] = 32, [3] = 19, [4] = 15, [5] = 32};
 
@@ -61,7 +62,7 @@ struct standing {
 
 struct gross {
     uint16_t causes[15];
-    int count, equal;
+    int count, equal, pending;
 };
 
 static uint32_t number_at(const uint8_t *record, int place)
@@ -124,7 +125,7 @@ static int engine_fault(const uint8_t *record, const struct series *series)
         is_gross |= 2 * (uint64_t)x > 3 * (uint64_t)series->limits[i];
     }
     uint16_t cause = cause_of(record);
-    if (series->plan == 4 && is_gross ? cause < 1 || cause > 65534 : cause != 0)
+    if (series->plan == 4 && is_gross ? cause == 0 : cause != 0)
         return 9;
     if (series->engines == last_rows[series->plan])
         return 10;
@@ -288,8 +289,9 @@ static void add_gross(struct gross *gross, uint16_t cause)
 {
     if (cause == 0)
         return;
+    gross->pending |= cause == PENDING;
     for (int i = 0; i < gross->count; i++)
-        gross->equal |= gross->causes[i] == cause;
+        gross->equal |= gross->causes[i] == cause && cause != PENDING;
     gross->causes[gross->count++] = cause;
 }
 
@@ -350,6 +352,10 @@ static void judge(const uint8_t *sheet, const struct series *series, uint8_t *ou
             continue;
         if (gross.equal) {
             write_report(output, FAIL, BY_EQUAL_CAUSE, n, standings);
+            return;
+        }
+        if (gross.pending) {
+            write_report(output, HELD, BY_PENDING, n, standings);
             return;
         }
         if (n == 15 && gross.count >= 2) {

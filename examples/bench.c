@@ -19,7 +19,9 @@
  *                                         running-in, as an engine's are given; after the limits
  *                                         and the small engine, before the engines
  *     engine [co=X] [hc=X] [nox=X] [pm=X] [5=X] [6=X] [cause=C]     measurements in thousandths;
- *                                         5 and 6 with -s 28 only
+ *                                         5 and 6 with -s 28 only; the cause of a gross emitter,
+ *                                         or cause=? while it is sought, plan 4 only
+ *     finding ENGINE CAUSE                the cause of an engine that was sought
  *     stop                                testing stopped by the manufacturer
  *
  * NAME=NUMBER words stand in any order. Numbers are whole: no sign, no decimal point, no comma.
@@ -28,26 +30,27 @@
  * already: cells send theirs at every start. Lines end in LF or CR LF; the last one may have no
  * end.
  *
- * After each engine, and after a stop, the program prints how the series stands; it stops reading
- * when the series is decided. A line that is not understood, or that the library refuses, is
+ * After each engine, each finding, and a stop, the program prints how the series stands; it stops
+ * reading when the series is decided. A line that is not understood, or that the library refuses, is
  * passed over: it is told with the reason, and the test goes on with the sheet as it was. Without
- * that limit, small engine, run-in values or engine the series may pass where it would have failed,
- * so a decision after such a line has an exit status of its own, and the last line counts the lines
- * passed over.
+ * that limit, small engine, run-in values, engine or finding the series may pass where it would have
+ * failed, so a decision after such a line has an exit status of its own, and the last line counts
+ * the lines passed over.
  *
  * FILE
  *
  * With -o the sheet is kept in FILE, which the program `verdict` reads if its records have 20
- * bytes. A record is on the disk before the next line is read; a volume or speed above 65535 is
- * kept as 65535. A FILE that holds a sheet is resumed: plan, limits, small engine, run-in values
+ * bytes. A record or finding is on the disk before the next line is read; a volume or speed above
+ * 65535 is kept as 65535. A FILE that holds a sheet is resumed: plan, limits, small engine, run-in values
  * and engines are those of the sheet. The bytes of a record that a crash has torn are told, and cut
  * when the next record is written. A FILE that is no sheet, or one of records of the other size, or
- * that another bench keeps, is left as it is. A pipe or a device is only written to.
+ * that another bench keeps, is left as it is. A pipe or a device is only written to, and takes no
+ * finding.
  *
  * EXIT STATUS
  *
  *     0  decided
- *     1  undecided when the lines end
+ *     1  undecided, or held, when the lines end
  *     2  wrong usage, a FILE that is no sheet or is taken, or an I/O error: see standard error
  *     3  decided, but lines were passed over
  *
@@ -77,8 +80,9 @@
 enum outcome { HELPED = 0, DECIDED = 0, UNDECIDED = 1, TROUBLE = 2, DECIDED_ON_LESS = 3 };
 
 /* Places in a record (docs/FORMAT.md, section 1): the header builds records, but reads none. */
-enum { KIND = 0, POLLUTANT = 1, PLAN = 2 };
-#define NO_RECORD 0 /* no kind of record has this number */
+enum { KIND = 0, POLLUTANT = 1, PLAN = 2, CAUSE = 2 };
+#define NO_RECORD 0  /* no kind of record has this number */
+#define CAUSE_SIZE 2 /* bytes of a cause */
 
 struct test {
     size_t size; /* of a record */
@@ -90,6 +94,7 @@ struct test {
     unsigned long first_passed_over;
     const char *path; /* of the file of -o, or NULL */
     int file;
+    int is_stream; /* the file is a pipe or a device, of which nothing is read or written again */
 };
 
 struct input {
@@ -116,7 +121,9 @@ static const char HELP[] =
     "                                      running-in, as an engine's are given; after the limits\n"
     "                                      and the small engine, before the engines\n"
     "  engine [co=X] [hc=X] [nox=X] [pm=X] [5=X] [6=X] [cause=C]     measurements in thousandths;\n"
-    "                                      5 and 6 with -s 28 only\n"
+    "                                      5 and 6 with -s 28 only; the cause of a gross emitter,\n"
+    "                                      or cause=? while it is sought, plan 4 only\n"
+    "  finding ENGINE CAUSE                the cause of an engine that was sought\n"
     "  stop                                testing stopped by the manufacturer\n"
     "Numbers are whole: no sign, no decimal point, no comma. Empty lines and lines that begin\n"
     "with # say nothing.\n"
@@ -126,15 +133,16 @@ static const char HELP[] =
     "\n"
     "exit status:\n"
     "  0  decided\n"
-    "  1  undecided when the lines end\n"
+    "  1  undecided, or held, when the lines end\n"
     "  2  wrong usage, a FILE that is no sheet or is taken, or an I/O error: see standard error\n"
     "  3  decided, but lines were passed over\n";
 
 static const char *const POLLUTANTS[] = {"none", "co", "hc", "nox", "pm", "5", "6"};
 static const char *const SMALL_ENGINE_VALUES[] = {"volume", "speed", "date"};
 #define SMALL_ENGINE_COUNT (sizeof SMALL_ENGINE_VALUES / sizeof SMALL_ENGINE_VALUES[0])
-static const char *const VERDICTS[] = {"another", "pass", "fail", "referred"};
-static const char *const GROUNDS[] = {"none", "row", "equal cause", "stopped", "referred"};
+static const char *const VERDICTS[] = {"another", "pass", "fail", "referred", "held"};
+static const char *const GROUNDS[] = {"none",    "row",      "equal cause",
+                                      "stopped", "referred", "finding pending"};
 static const char *const DECISIONS[] = {"open", "pass", "fail"};
 
 /* A later library may answer a number that this program has no word for. */
@@ -239,6 +247,20 @@ static const char *read_value(const char *number, size_t place, uint32_t *values
     return read_number(number, &values[place]);
 }
 
+/* A cause that is sought is given by the word, and by no number. */
+static const char *read_cause(const char *number, size_t place, uint32_t *values, int *given)
+{
+    int is_sought = strcmp(number, "?") == 0;
+    const char *fault = read_value(is_sought ? "0" : number, place, values, given);
+    if (fault == NULL && values[place] > CONFORMITY_CAUSE_MAX) {
+        return "the cause is not 0 to 65534, and not ?";
+    }
+    if (is_sought) {
+        values[place] = CONFORMITY_CAUSE_PENDING;
+    }
+    return fault;
+}
+
 /* The place of a name among the values; their count where it has none. */
 static size_t small_engine_place(const char *name)
 {
@@ -282,9 +304,11 @@ static const char *read_engine_value(size_t size, int has_cause, char *word, uin
 {
     const char *number = number_of(word);
     uint32_t place = pollutant_named(size, word);
-    return place > 0 || (has_cause && strcmp(word, "cause") == 0)
-               ? read_value(number, place, values, given)
-               : "an unknown name";
+    if (place > 0) {
+        return read_value(number, place, values, given);
+    }
+    return has_cause && strcmp(word, "cause") == 0 ? read_cause(number, place, values, given)
+                                                   : "an unknown name";
 }
 
 static const char *read_engine_values(size_t size, int has_cause, char **words, size_t count,
@@ -318,6 +342,15 @@ static const char *read_engine(size_t size, char **words, size_t count, uint8_t 
         conformity_engine_record_sized(size, record, values[0], values + 1);
     }
     return fault;
+}
+
+static const char *read_finding(char **words, size_t count, uint32_t *engine, uint32_t *finding)
+{
+    const char *fault = wrong_count(count, 3, 3);
+    if (fault == NULL) {
+        fault = read_number(words[1], engine);
+    }
+    return fault == NULL ? read_number(words[2], finding) : fault;
 }
 
 static const char *read_words(struct test *test, char **words, size_t count, uint8_t *record)
@@ -377,6 +410,12 @@ static size_t start_on(const struct test *test)
     return end;
 }
 
+/* The place of the cause of an engine, counted from 1, that is on the sheet. */
+static size_t cause_on(const struct test *test, uint32_t engine)
+{
+    return start_on(test) + (engine - 1) * test->size + CAUSE;
+}
+
 static int stands_already(const struct test *test, const uint8_t *record)
 {
     size_t at;
@@ -412,7 +451,8 @@ static enum outcome print_standing(const struct test *test)
         }
     }
     putchar('\n');
-    return verdict == CONFORMITY_VERDICT_ANOTHER ? UNDECIDED : DECIDED;
+    return verdict == CONFORMITY_VERDICT_ANOTHER || verdict == CONFORMITY_VERDICT_HELD ? UNDECIDED
+                                                                                       : DECIDED;
 }
 
 /* ---- The file of -o ---- */
@@ -467,6 +507,30 @@ static enum outcome keep_record(const struct test *test, const uint8_t *record)
     cut = ftruncate(test->file, (off_t)test->used) == 0 ? "is" : "could not be";
     snprintf(why, sizeof why, "line %lu is not kept: %s; the file %s cut back to whole records",
              test->line_number, error, cut);
+    return trouble(test->path, why);
+}
+
+/* The two bytes have an even place, so that they lie in one sector: a crash leaves both or none. */
+static int write_cause(const struct test *test, size_t at, const uint8_t *cause)
+{
+    return lseek(test->file, (off_t)at, SEEK_SET) >= 0 &&
+           write_file(test->file, cause, CAUSE_SIZE) && sync_file(test->file) &&
+           lseek(test->file, (off_t)test->used, SEEK_SET) >= 0;
+}
+
+/* The cause that was pending is written again where the one that was found cannot be. */
+static enum outcome keep_finding(const struct test *test, size_t at)
+{
+    static const uint8_t pending[CAUSE_SIZE] = {0xff, 0xff};
+    char why[256];
+    const char *error, *set_back;
+    if (test->path == NULL || write_cause(test, at, test->sheet + at)) {
+        return UNDECIDED;
+    }
+    error = strerror(errno);
+    set_back = write_cause(test, at, pending) ? "is" : "could not be";
+    snprintf(why, sizeof why, "line %lu is not kept: %s; the cause %s set back to pending",
+             test->line_number, error, set_back);
     return trouble(test->path, why);
 }
 
@@ -570,8 +634,9 @@ static enum outcome open_sheet(struct test *test, const char *path)
     if (test->file < 0 || fstat(test->file, &status) != 0) {
         return trouble(path, strerror(errno));
     }
-    if (!S_ISREG(status.st_mode)) {
-        return UNDECIDED; /* a pipe or device: reading from it might never end */
+    test->is_stream = !S_ISREG(status.st_mode);
+    if (test->is_stream) {
+        return UNDECIDED; /* reading from it might never end */
     }
     if (is_standard_stream(&status)) {
         return trouble(path, "no sheet, left as it is: it is standard input, output or error");
@@ -599,14 +664,19 @@ static void pass_over(struct test *test, uint32_t refusal, const char *reason)
     puts(reason);
 }
 
+static enum outcome refused(struct test *test, uint32_t code)
+{
+    uint32_t number = conformity_refusal_number(code);
+    pass_over(test, number, conformity_refusal_text_sized(test->size, number));
+    return UNDECIDED;
+}
+
 static enum outcome take_record(struct test *test, const uint8_t *record)
 {
     uint32_t code = conformity_append_sized(test->size, test->sheet, sizeof test->sheet,
                                             test->used, record, test->size);
     if (code != 0) {
-        uint32_t number = conformity_refusal_number(code);
-        pass_over(test, number, conformity_refusal_text_sized(test->size, number));
-        return UNDECIDED;
+        return refused(test, code);
     }
     if (keep_record(test, record) == TROUBLE) {
         return TROUBLE;
@@ -622,6 +692,29 @@ static enum outcome take_record(struct test *test, const uint8_t *record)
     return print_standing(test);
 }
 
+/* A finding adds no record: it changes the one that stands. */
+static enum outcome take_finding(struct test *test, char **words, size_t count)
+{
+    uint32_t engine = 0, finding = 0, code;
+    const char *fault = read_finding(words, count, &engine, &finding);
+    if (fault == NULL && test->is_stream) {
+        fault = "the record is in a pipe or a device, and cannot be changed";
+    }
+    if (fault != NULL) {
+        pass_over(test, 0, fault);
+        return UNDECIDED;
+    }
+    code = conformity_finding(test->size, test->sheet, test->used, engine, finding);
+    if (code != 0) {
+        return refused(test, code);
+    }
+    if (keep_finding(test, cause_on(test, engine)) == TROUBLE) {
+        return TROUBLE;
+    }
+    printf("finding of engine %u: ", (unsigned)engine);
+    return print_standing(test);
+}
+
 /* The fault is what was wrong with the line as it was read, or NULL. */
 static enum outcome take_line(struct test *test, char *line, const char *fault)
 {
@@ -634,6 +727,9 @@ static enum outcome take_line(struct test *test, char *line, const char *fault)
     }
     if (count == 0 ? fault == NULL : words[0][0] == '#') {
         return UNDECIDED; /* a comment may be longer than other lines */
+    }
+    if (fault == NULL && strcmp(words[0], "finding") == 0) {
+        return take_finding(test, words, count);
     }
     if (fault == NULL) {
         fault = read_words(test, words, count, record);

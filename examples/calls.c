@@ -10,7 +10,7 @@
  *     input-fails    where standard input ends, reading it fails with EIO
  *     killed         the program is killed when 7 bytes of its third record are written
  *     no-fsync       fsync fails with EINVAL
- *     fsync-fails    the third fsync fails with EIO
+ *     fsync-fails    the third fsync fails with EIO; with fsync-fails-on, each one from there on
  *     no-cut         ftruncate fails with EIO
  */
 #define _POSIX_C_SOURCE 200809L
@@ -94,7 +94,9 @@ int __wrap_fsync(int file)
     if (is_interrupted(&tries)) {
         return fails(EINTR);
     }
-    if (asked("no-fsync") || (asked("fsync-fails") && ++records == 3)) {
+    records++;
+    if (asked("no-fsync") || (asked("fsync-fails") && records == 3) ||
+        (asked("fsync-fails-on") && records > 3)) {
         return fails(asked("no-fsync") ? EINVAL : EIO);
     }
     if (asked("interrupted") && fstat(file, &status) == 0) {

@@ -1,8 +1,9 @@
 /*
  * header_test - checks include/conformity.h: every constant, builder and reader against document
  * 01's bytes and document 02's for 28-byte records, small engines and run-in values, every refusal,
- * in its order, through the library, sheets of either size and the converter between them, and
- * document 02's declared values. Prints what fails, and last a line `N passed, M failed`.
+ * in its order, through the library, sheets of either size and the converter between them, held
+ * sheets and findings, and document 02's declared values. Prints what fails, and last a line
+ * `N passed, M failed`.
  */
 #include <conformity.h>
 
@@ -41,7 +42,7 @@ static void constants(void)
     CHECK(CONFORMITY_POLLUTANTS_28 == 6);
     CHECK(CONFORMITY_VALUE_MAX == 9999999);
     CHECK(CONFORMITY_DEVIATION_MAX == 4000000);
-    CHECK(CONFORMITY_CAUSE_MAX == 65534);
+    CHECK(CONFORMITY_CAUSE_MAX == 65534 && CONFORMITY_CAUSE_PENDING == 65535);
     CHECK(CONFORMITY_TESTS_MAX == 3);
     CHECK(CONFORMITY_PARTICULATE_LIMIT == 150 && CONFORMITY_PARTICULATE_LIMIT_SMALL_ENGINE == 250);
     CHECK(CONFORMITY_REPORT_MARK == 16);
@@ -56,9 +57,10 @@ static void constants(void)
     CHECK(CONFORMITY_PLAN_CORRECTED == 5);
     CHECK(CONFORMITY_VERDICT_ANOTHER == 0 && CONFORMITY_VERDICT_PASS == 1);
     CHECK(CONFORMITY_VERDICT_FAIL == 2 && CONFORMITY_VERDICT_REFERRED == 3);
+    CHECK(CONFORMITY_VERDICT_HELD == 4);
     CHECK(CONFORMITY_GROUND_NONE == 0 && CONFORMITY_GROUND_ROW == 1);
     CHECK(CONFORMITY_GROUND_EQUAL_CAUSE == 2 && CONFORMITY_GROUND_STOPPED == 3);
-    CHECK(CONFORMITY_GROUND_REFERRED == 4);
+    CHECK(CONFORMITY_GROUND_REFERRED == 4 && CONFORMITY_GROUND_PENDING == 5);
     CHECK(CONFORMITY_DECISION_OPEN == 0 && CONFORMITY_DECISION_PASS == 1);
     CHECK(CONFORMITY_DECISION_FAIL == 2);
 }
@@ -98,7 +100,8 @@ static void builders(void)
                                        0,    0,    0xff, 0xff, 0xff, 0xff, 0x7f, 0x96, 0x98, 0};
     static const uint8_t wide_pollutant[20] = {1,    255,  255,  0, 0xff, 0xff, 0xff, 0xff,
                                                0xff, 0xff, 0xff, 0xff};
-    static const uint8_t wide_engine[20] = {2, 0, 0xff, 0xff};
+    static const uint8_t pending_engine[20] = {2, 0, 0xff, 0xff};
+    static const uint8_t wide_engine[20] = {2, 0xff, 0xff, 0xff};
     static const uint8_t wide_small_engine[20] = {5, 0, 0xff, 0xff, 0xff, 0xff, 0,
                                                   0, 0xff, 0xff, 0xff, 0xff};
     static const uint32_t measurements[4] = {0x01020304, 0, UINT32_MAX, CONFORMITY_VALUE_MAX};
@@ -126,10 +129,16 @@ static void builders(void)
     conformity_run_in_record(record, measurements);
     CHECK(same(record, run_in, 20) && record[20] == 0xa5);
 
-    /* 257 and 65536 + 7 must not become 1 and 7. */
+    /* 257 and 65536 + 7 must not become 1 and 7, nor must 65536 mark a finding that is pending. */
     conformity_pollutant_record(record, 257, 257, UINT32_MAX, UINT32_MAX);
     CHECK(same(record, wide_pollutant, 20));
+    conformity_engine_record(record, CONFORMITY_CAUSE_PENDING, none);
+    CHECK(same(record, pending_engine, 20));
+    conformity_engine_record(record, 65536, none);
+    CHECK(same(record, wide_engine, 20));
     conformity_engine_record(record, 65536 + 7, none);
+    CHECK(same(record, wide_engine, 20));
+    conformity_engine_record(record, UINT32_MAX, none);
     CHECK(same(record, wide_engine, 20));
     conformity_small_engine_record(record, 65536 + 699, 65536, UINT32_MAX);
     CHECK(same(record, wide_small_engine, 20));
@@ -250,7 +259,7 @@ static void sized_readers(void)
 /* Of the numbers up to the greatest refusal's. */
 static int is_no_refusal(uint32_t number)
 {
-    return number >= 23 && number <= 29;
+    return number >= 25 && number <= 29;
 }
 
 static void codes(void)
@@ -269,9 +278,10 @@ static void codes(void)
     CHECK(conformity_refusal_record(19 * 256 + 38) == 38);
     CHECK(CONFORMITY_REFUSED_TESTS == 20 && CONFORMITY_REFUSED_VALUE == 21);
     CHECK(CONFORMITY_REFUSED_LATE_TEST == 22);
+    CHECK(CONFORMITY_REFUSED_NOT_PENDING == 23 && CONFORMITY_REFUSED_FINDING == 24);
     CHECK(CONFORMITY_REFUSED_SIZE == 30 && CONFORMITY_REFUSED_NARROWING == 31);
     CHECK(CONFORMITY_REFUSED_CONVERTED_OUTPUT == 32);
-    /* A sentence of its own for each number: 0, 1 to 22, 30 to 32, and one for all others. */
+    /* A sentence of its own for each number: 0, 1 to 24, 30 to 32, and one for all others. */
     for (number = 0; number <= CONFORMITY_REFUSED_CONVERTED_OUTPUT; number++) {
         CHECK(conformity_refusal_text(number)[0] != '\0');
         for (other = 0; other < number; other++) {
@@ -279,11 +289,11 @@ static void codes(void)
                   (is_no_refusal(number) && is_no_refusal(other)));
         }
     }
-    CHECK(strcmp(conformity_refusal_text(23), conformity_refusal_text(UINT32_MAX)) == 0);
-    CHECK(strcmp(conformity_refusal_text(23), conformity_refusal_text(33)) == 0);
+    CHECK(strcmp(conformity_refusal_text(25), conformity_refusal_text(UINT32_MAX)) == 0);
+    CHECK(strcmp(conformity_refusal_text(25), conformity_refusal_text(33)) == 0);
 }
 
-/* The sentences that speak of small engines and of run-in values. */
+/* The sentences that speak of small engines, of run-in values and of findings. */
 static void later_texts(void)
 {
     CHECK(strcmp(conformity_refusal_text(CONFORMITY_REFUSED_KIND),
@@ -298,6 +308,12 @@ static void later_texts(void)
                  "250 or 150") == 0);
     CHECK(strcmp(conformity_refusal_text(CONFORMITY_REFUSED_RUN_IN),
                  "the run-in record is a second one, follows an engine, or is in plan 4") == 0);
+    CHECK(strcmp(conformity_refusal_text(CONFORMITY_REFUSED_CAUSE),
+                 "the cause is 0 for a gross emitter in plan 4, or not 0 for any other engine") == 0);
+    CHECK(strcmp(conformity_refusal_text(CONFORMITY_REFUSED_NOT_PENDING),
+                 "the finding of that engine is not pending, or there is no such engine") == 0);
+    CHECK(strcmp(conformity_refusal_text(CONFORMITY_REFUSED_FINDING),
+                 "the finding is not 1 to 65534") == 0);
 }
 
 struct sized_text {
@@ -513,6 +529,7 @@ static void refused_records(void)
     CHECK(append_pollutant(3, 3, 150, 0) == code_of(CONFORMITY_REFUSED_POLLUTANT, 1));
     CHECK(append_engine(CONFORMITY_VALUE_MAX + 1, 0) == code_of(CONFORMITY_REFUSED_MEASUREMENT, 1));
     CHECK(append_engine(140, 1) == code_of(CONFORMITY_REFUSED_CAUSE, 1));
+    CHECK(append_engine(140, CONFORMITY_CAUSE_PENDING) == code_of(CONFORMITY_REFUSED_CAUSE, 1));
     for (pollutant = 1; pollutant <= conformity_pollutants(record_size); pollutant++) {
         uint32_t measurements[CONFORMITY_POLLUTANTS_28] = {0, 0, 0, 140, 0, 0};
         measurements[pollutant - 1] = pollutant == CONFORMITY_PARTICULATES ? 0 : 1;
@@ -530,9 +547,12 @@ static void refused_records(void)
     CHECK(append_pollutant(4, CONFORMITY_PLAN_IN_SERVICE, 1000, 0) == 0);
     CHECK(append_stop() == code_of(CONFORMITY_REFUSED_STOP, 1));
     CHECK(append_engine(1501, 0) == code_of(CONFORMITY_REFUSED_CAUSE, 1));
-    CHECK(append_engine(1501, CONFORMITY_CAUSE_MAX + 1) == code_of(CONFORMITY_REFUSED_CAUSE, 1));
-    CHECK(append_engine(1501, 65536 + 7) == code_of(CONFORMITY_REFUSED_CAUSE, 1));
+    CHECK(append_engine(1500, CONFORMITY_CAUSE_PENDING) == code_of(CONFORMITY_REFUSED_CAUSE, 1));
+    CHECK(append_engine(1501, 65536) == code_of(CONFORMITY_REFUSED_ZERO, 1));
+    CHECK(append_engine(1501, 65536 + 7) == code_of(CONFORMITY_REFUSED_ZERO, 1));
+    CHECK(append_engine(1500, 65536 + 7) == code_of(CONFORMITY_REFUSED_CAUSE, 1));
     CHECK(append_engine(1501, CONFORMITY_CAUSE_MAX) == 0);
+    CHECK(append_engine(1501, CONFORMITY_CAUSE_PENDING) == 0);
 }
 
 static void refused_memory(void)
@@ -1005,6 +1025,7 @@ static void refused_by_all(uint32_t refused)
     CHECK(report_on(buffer, used, report, sizeof report) == refused);
     CHECK(is_untouched(report, 0, sizeof report));
     CHECK(convert(record_size, buffer, used, 0) == refused);
+    CHECK(conformity_finding(record_size, buffer, used, 0, 0) == refused);
     CHECK(append_stop() == refused);
     /* 14 and 13 come before it, and 15. */
     conformity_stop_record_sized(record_size, record);
@@ -1225,6 +1246,106 @@ static void run_in_engines(void)
     refused_run_in_sheet();
 }
 
+/* ---- Document 02, F-5: held sheets and findings ---- */
+
+/* Enters a finding; checks that just the two bytes of the engine's cause change on success, the lower
+   first, and none on a refusal. */
+static uint32_t enter(uint32_t engine, uint32_t finding)
+{
+    uint32_t code;
+    memcpy(before, buffer, sizeof buffer);
+    code = conformity_finding(record_size, buffer, used, engine, finding);
+    if (code == 0) {
+        size_t cause = record_size * engine + 2; /* behind one pollutant */
+        before[cause] = finding & 0xffu;
+        before[cause + 1] = (finding >> 8) & 0xffu;
+    }
+    CHECK(same(buffer, before, sizeof buffer));
+    return code;
+}
+
+#define CHECK_HELD(engine) \
+    CHECK_REPORT(CONFORMITY_VERDICT_HELD, CONFORMITY_GROUND_PENDING, engine, \
+                 CONFORMITY_DECISION_OPEN)
+
+/* The request's sheet: 1600, pending; 900; 1600 of this cause, of limit 1000. */
+static void sheet_with_a_pending_vehicle(uint32_t cause)
+{
+    new_sheet();
+    CHECK(append_pollutant(4, CONFORMITY_PLAN_IN_SERVICE, 1000, 0) == 0);
+    CHECK(append_engine(1600, CONFORMITY_CAUSE_PENDING) == 0);
+    CHECK(append_engine(900, 0) == 0);
+    CHECK_REPORT(CONFORMITY_VERDICT_ANOTHER, CONFORMITY_GROUND_NONE, 2, CONFORMITY_DECISION_OPEN);
+    CHECK(append_engine(1600, cause) == 0);
+    CHECK_HELD(3);
+}
+
+static void findings(void)
+{
+    sheet_with_a_pending_vehicle(7);
+    CHECK(enter(1, 7) == 0);
+    CHECK_REPORT(CONFORMITY_VERDICT_FAIL, CONFORMITY_GROUND_EQUAL_CAUSE, 3,
+                 CONFORMITY_DECISION_OPEN);
+    CHECK(enter(1, 8) == code_of(CONFORMITY_REFUSED_NOT_PENDING, 0)); /* it is known now */
+
+    sheet_with_a_pending_vehicle(7);
+    CHECK(enter(1, 8) == 0);
+    CHECK_REPORT(CONFORMITY_VERDICT_ANOTHER, CONFORMITY_GROUND_NONE, 3, CONFORMITY_DECISION_OPEN);
+
+    /* Two pending ones are not equal; each is found by itself, in any order. */
+    sheet_with_a_pending_vehicle(CONFORMITY_CAUSE_PENDING);
+    CHECK(enter(3, CONFORMITY_CAUSE_MAX) == 0);
+    CHECK_HELD(3);
+    CHECK(enter(1, 256) == 0);
+    CHECK_REPORT(CONFORMITY_VERDICT_ANOTHER, CONFORMITY_GROUND_NONE, 3, CONFORMITY_DECISION_OPEN);
+}
+
+static void refused_findings(void)
+{
+    static const uint32_t none[] = {0, 2, 3, 4, 257, 65537, UINT32_MAX};
+    static const uint32_t wrong[] = {0, CONFORMITY_CAUSE_PENDING, 65536, 65536 + 7, UINT32_MAX};
+    size_t i;
+    sheet_with_a_pending_vehicle(7);
+    for (i = 0; i < sizeof none / sizeof none[0]; i++) {
+        CHECK(enter(none[i], 7) == code_of(CONFORMITY_REFUSED_NOT_PENDING, 0));
+        CHECK(enter(none[i], 0) == code_of(CONFORMITY_REFUSED_NOT_PENDING, 0)); /* before 24 */
+    }
+    for (i = 0; i < sizeof wrong / sizeof wrong[0]; i++) {
+        CHECK(enter(1, wrong[i]) == code_of(CONFORMITY_REFUSED_FINDING, 0));
+    }
+    CHECK(enter(1, 1) == 0);
+
+    sheet_with_a_pending_vehicle(7);
+    buffer[3 * record_size + 1] = 1; /* of the last engine, where it must be zero */
+    CHECK(enter(1, 0) == code_of(CONFORMITY_REFUSED_ZERO, 3));
+    used--;
+    CHECK(enter(1, 7) == code_of(CONFORMITY_REFUSED_LENGTH, 0));
+    CHECK(conformity_finding(record_size, NULL, 0, 1, 7) == code_of(CONFORMITY_REFUSED_LENGTH, 0));
+}
+
+/* Vehicles behind the row are counted for nothing: equal causes there, and one of which it is found
+   later. */
+static void vehicles_behind(void)
+{
+    sheet_with_a_pending_vehicle(7);
+    CHECK(append_engine(1600, 7) == 0);
+    CHECK(append_engine(1600, CONFORMITY_CAUSE_PENDING) == 0);
+    CHECK_HELD(3);
+    CHECK(enter(5, 7) == 0);
+    CHECK_HELD(3);
+    CHECK(enter(1, 8) == 0);
+    CHECK_REPORT(CONFORMITY_VERDICT_FAIL, CONFORMITY_GROUND_EQUAL_CAUSE, 4,
+                 CONFORMITY_DECISION_OPEN);
+
+    new_sheet();
+    CHECK(append_pollutant(4, CONFORMITY_PLAN_IN_SERVICE, 1000, 0) == 0);
+    CHECK(append_engine(500, 0) == 0 && append_engine(500, 0) == 0 && append_engine(500, 0) == 0);
+    CHECK(append_engine(1600, CONFORMITY_CAUSE_PENDING) == 0);
+    CHECK_REPORT(CONFORMITY_VERDICT_PASS, CONFORMITY_GROUND_ROW, 3, CONFORMITY_DECISION_PASS);
+    CHECK(enter(4, 7) == 0);
+    CHECK_REPORT(CONFORMITY_VERDICT_PASS, CONFORMITY_GROUND_ROW, 3, CONFORMITY_DECISION_PASS);
+}
+
 /* ---- Document 02, F-10: two sizes ---- */
 
 static void each_way(void)
@@ -1249,6 +1370,9 @@ static void each_way(void)
         finer_logarithm();
         small_engines();
         run_in_engines();
+        findings();
+        refused_findings();
+        vehicles_behind();
     }
 }
 
@@ -1453,6 +1577,9 @@ static void refused_sizes(void)
         CHECK(conformity_convert(size, sheet, 100, bytes, sizeof bytes) == refused);
         CHECK(conformity_convert(size, sheet, 0, bytes, 0) == refused);
         CHECK(conformity_convert(size, NULL, 0, NULL, 0) == refused);
+        CHECK(conformity_finding(size, bytes, sizeof bytes, 1, 7) == refused);
+        CHECK(conformity_finding(size, bytes, 20, 0, 0) == refused);
+        CHECK(conformity_finding(size, NULL, 0, 0, 0) == refused);
     }
     CHECK(is_untouched(bytes, 0, sizeof bytes));
 }

@@ -5,7 +5,7 @@
  * decide: the series passes, fails, or is referred to the authority. The rules
  * are those of Directive 96/1/EC, sections 8.1.1.1.1, 8.1.1.1.3 and 8.1.1.2.2 and
  * Appendices 1 to 3 (production), and of COM(97) 77, Appendix 1 (vehicles in
- * service).
+ * service), where a series is held while the cause of a gross emitter is sought.
  *
  * The caller keeps a SHEET: records of 20 bytes, or with six pollutants of 28
  * bytes (TWO SIZES, below), one after another, in memory of its own. Two functions
@@ -70,6 +70,13 @@
  *
  *     conformity_convert  writes the sheet in records of the other size
  *
+ * In service the cause of a gross emitter may be sought for weeks. Its record is
+ * then added with CONFORMITY_CAUSE_PENDING for a cause, and testing goes on; from
+ * the first row that has the vehicle the series is held, unless it is decided
+ * before. What is found goes into the record that stands:
+ *
+ *     conformity_finding  enters the cause of a vehicle whose finding is pending
+ *
  * One function is about no sheet: in type approval it compares a declared carbon
  * dioxide value with the tests of one vehicle (Directive 80/1268/EEC, Annex I, 6.5):
  *
@@ -121,6 +128,7 @@ extern "C" {
 #define CONFORMITY_VALUE_MAX 9999999     /* greatest limit, measurement, CO2 value; least 1 */
 #define CONFORMITY_DEVIATION_MAX 4000000 /* greatest deviation in plan 1; least 1 */
 #define CONFORMITY_CAUSE_MAX 65534       /* greatest cause of a gross emitter; least 1 */
+#define CONFORMITY_CAUSE_PENDING 65535   /* in its place while the finding is pending */
 #define CONFORMITY_TESTS_MAX 3           /* most tests of a declared value; least 1 */
 
 /* The two particulate limits of a sheet with a small-engine record, in thousandths of g/kWh: see
@@ -170,10 +178,12 @@ enum conformity_plan {
 #define CONFORMITY_REPORT_MARK 16 /* first byte of every report, and of no accepted sheet */
 
 enum conformity_verdict {
-    CONFORMITY_VERDICT_ANOTHER = 0, /* undecided: test another engine */
+    CONFORMITY_VERDICT_ANOTHER = 0,  /* undecided: test another engine */
     CONFORMITY_VERDICT_PASS = 1,
     CONFORMITY_VERDICT_FAIL = 2,
-    CONFORMITY_VERDICT_REFERRED = 3 /* plan 4 only: the authority decides */
+    CONFORMITY_VERDICT_REFERRED = 3, /* plan 4 only: the authority decides */
+    CONFORMITY_VERDICT_HELD = 4      /* plan 4 only: undecided until a finding is entered; more
+                                        vehicles may be tested */
 };
 
 enum conformity_ground {
@@ -181,7 +191,8 @@ enum conformity_ground {
     CONFORMITY_GROUND_ROW = 1,         /* a row of the plan decided */
     CONFORMITY_GROUND_EQUAL_CAUSE = 2, /* plan 4: two gross emitters of equal cause */
     CONFORMITY_GROUND_STOPPED = 3,     /* stopped by the manufacturer while undecided: fail */
-    CONFORMITY_GROUND_REFERRED = 4     /* plan 4: two or more gross emitters among 15 */
+    CONFORMITY_GROUND_REFERRED = 4,    /* plan 4: two or more gross emitters among 15 */
+    CONFORMITY_GROUND_PENDING = 5      /* plan 4, held: the finding of a gross emitter is pending */
 };
 
 enum conformity_decision {
@@ -200,7 +211,7 @@ enum conformity_decision {
  * where the record is counted from 0. Refusals 2 to 12 and 16 to 19 name a record;
  * 1, 13 to 15 and those from 20 on name none, and the record is 0. A sheet is refused
  * for its first faulty record, and for the number that applies to it and comes first
- * in the order 2, 3, 16, 17, 18, 19, 4, 5, .. 12. No refusal has the numbers 23 to 29.
+ * in the order 2, 3, 16, 17, 18, 19, 4, 5, .. 12. No refusal has the numbers 25 to 29.
  *
  * A number in brackets stands, for 28-byte records, in place of the one before it.
  */
@@ -223,7 +234,8 @@ enum conformity_refusal {
     /* A measurement is not 1 to 9,999,999, or one of an undeclared pollutant is not 0; of an engine
        or of run-in values. */
     CONFORMITY_REFUSED_MEASUREMENT = 8,
-    /* The cause is not 1 to 65,534 for a gross emitter in plan 4, or not 0 for any other engine. */
+    /* The cause is 0 for a gross emitter in plan 4, which has 1 to 65,534, or 65,535 while its
+       finding is pending; or it is not 0 for any other engine. */
     CONFORMITY_REFUSED_CAUSE = 9,
     /* There are more engines than the plan's last row. */
     CONFORMITY_REFUSED_ENGINES = 10,
@@ -253,7 +265,11 @@ enum conformity_refusal {
     CONFORMITY_REFUSED_VALUE = 21,
     /* declared: a test follows those by which the declared value stands. */
     CONFORMITY_REFUSED_LATE_TEST = 22,
-    /* append_sized, report_sized, convert: the size is not 20 or 28. */
+    /* finding: the finding of the engine is not pending, or there is no such engine. */
+    CONFORMITY_REFUSED_NOT_PENDING = 23,
+    /* finding: the finding is not 1 to 65,534. */
+    CONFORMITY_REFUSED_FINDING = 24,
+    /* append_sized, report_sized, convert, finding: the size is not 20 or 28. */
     CONFORMITY_REFUSED_SIZE = 30,
     /* convert, of a sheet of 28-byte records: it declares pollutant 5 or 6. */
     CONFORMITY_REFUSED_NARROWING = 31,
@@ -280,8 +296,8 @@ enum conformity_refusal {
  *                        record named is then the new one, used / 20 (for
  *                        refusal 1, as always, 0)
  *
- * Records may be added after the series is decided. They are checked like any
- * other and do not change the verdict.
+ * Records may be added after the series is decided or held. They are checked like
+ * any other and do not change the verdict.
  */
 uint32_t conformity_append(uint8_t *buffer, size_t buffer_length, size_t used,
                            const uint8_t *record, size_t record_length);
@@ -325,6 +341,24 @@ uint32_t conformity_report_sized(size_t size, const uint8_t *sheet, size_t sheet
  */
 uint32_t conformity_convert(size_t size, const uint8_t *sheet, size_t sheet_length,
                             uint8_t *output, size_t output_length);
+
+/*
+ * Enters a finding: the cause of the vehicle that is engine `engine`, counted from 1,
+ * on the sheet, of records of `size` bytes, becomes `finding` where it was
+ * CONFORMITY_CAUSE_PENDING.
+ *
+ * Returns 0 when it was entered: the two bytes of that cause have changed, and no
+ * others. The sheet is then as if the cause had stood there from the start. Findings
+ * may come in any order, also of vehicles behind the one that decided. A verdict
+ * other than held stays the same whatever is found. Otherwise no byte has changed,
+ * and the refusal is the first of these:
+ *     30                 the size is not 20 or 28
+ *     1 to 12, 16 to 19  the sheet is refused
+ *     23                 no vehicle whose finding is pending is that engine
+ *     24                 the finding is not 1 to CONFORMITY_CAUSE_MAX
+ */
+uint32_t conformity_finding(size_t size, uint8_t *sheet, size_t sheet_length, uint32_t engine,
+                            uint32_t finding);
 
 /*
  * Compares the declared carbon dioxide value of a type with the tests of one
@@ -415,8 +449,7 @@ static inline const char *conformity_refusal_text(uint32_t number)
     case CONFORMITY_REFUSED_MEASUREMENT:
         return "a measurement is not 1 to 9999999, or one of an undeclared pollutant is not 0";
     case CONFORMITY_REFUSED_CAUSE:
-        return "the cause is not 1 to 65534 for a gross emitter in plan 4, "
-               "or not 0 for any other engine";
+        return "the cause is 0 for a gross emitter in plan 4, or not 0 for any other engine";
     case CONFORMITY_REFUSED_ENGINES:
         return "there are more engines than the plan's last row";
     case CONFORMITY_REFUSED_STOP:
@@ -444,6 +477,10 @@ static inline const char *conformity_refusal_text(uint32_t number)
         return "the declared value or a test is not 1 to 9999999";
     case CONFORMITY_REFUSED_LATE_TEST:
         return "a test follows those by which the declared value stands";
+    case CONFORMITY_REFUSED_NOT_PENDING:
+        return "the finding of that engine is not pending, or there is no such engine";
+    case CONFORMITY_REFUSED_FINDING:
+        return "the finding is not 1 to 65534";
     case CONFORMITY_REFUSED_SIZE:
         return "the record size is not 20 or 28";
     case CONFORMITY_REFUSED_NARROWING:
@@ -481,11 +518,13 @@ static inline const char *conformity_refusal_text_sized(size_t size, uint32_t nu
  * A builder writes every byte of the record and checks nothing: conformity_append
  * does. A number too large for its field is written as the field's greatest, and
  * never cut down to a smaller one that might be accepted. The field's greatest is
- * refused, but for a small engine's volume and speed, which have no range: 65,535 is
- * accepted there and stands for every number from 65,535 on. The rule asks whether
- * the volume is under 700 and the speed above 3000, and so answers for 65,535 as it
- * would for the larger number. For a size that is not 20 or 28 nothing is written, and
- * the library refuses the size.
+ * refused, but for two kinds of fields. A small engine's volume and speed have no
+ * range: 65,535 is accepted there and stands for every number from 65,535 on. The rule
+ * asks whether the volume is under 700 and the speed above 3000, and so answers for
+ * 65,535 as it would for the larger number. And as a cause 65,535 is
+ * CONFORMITY_CAUSE_PENDING: a record with a larger cause gets a byte 1 that is not zero
+ * too, so that it is refused, with 9 or 12. For a size that is not 20 or 28 nothing is
+ * written, and the library refuses the size.
  */
 
 /* For the builders: `number`, or `greatest` where it is larger. */
@@ -636,9 +675,10 @@ static inline void conformity_run_in_record(uint8_t record[CONFORMITY_RECORD_SIZ
  * An engine, or in plan 4 a vehicle.
  *     cause         plan 4: what made a gross emitter one, as numbered by the
  *                   caller, 1 to CONFORMITY_CAUSE_MAX; equal causes, equal
- *                   numbers. 0 for every other vehicle and in the other plans. A
- *                   vehicle is a gross emitter if a measurement is above 3/2 of
- *                   its limit
+ *                   numbers; CONFORMITY_CAUSE_PENDING until it is found, see
+ *                   conformity_finding. 0 for every other vehicle and in the other
+ *                   plans. A vehicle is a gross emitter if a measurement is above
+ *                   3/2 of its limit
  *     measurements  conformity_pollutants(size) of them, in thousandths of the
  *                   limit's unit, 1 to CONFORMITY_VALUE_MAX, carbon monoxide first:
  *                   measurements[pollutant - 1]; 0 for a pollutant that the sheet
@@ -648,6 +688,7 @@ static inline void conformity_engine_record_sized(size_t size, uint8_t *record, 
                                                   const uint32_t *measurements)
 {
     if (conformity_begin_(size, record, CONFORMITY_KIND_ENGINE)) {
+        conformity_put_(record + 1, 1, cause > CONFORMITY_CAUSE_PENDING ? 0xffu : 0);
         conformity_put_(record + 2, 2, conformity_at_most_(cause, 0xffffu));
         conformity_put_measurements_(size, record, measurements);
     }
@@ -682,7 +723,8 @@ static inline uint32_t conformity_report_ground(const uint8_t report[CONFORMITY_
     return report[2];
 }
 
-/* The engine, counted from 1, at which the series was decided; for another, the engines so far. */
+/* The engine, counted from 1, at which the series was decided or is held; for another, the engines so
+   far. */
 static inline uint32_t conformity_report_engine(const uint8_t report[CONFORMITY_REPORT_SIZE])
 {
     return report[3];

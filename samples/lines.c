@@ -5,7 +5,7 @@
 #include <stdio.h>
 #include <stdlib.h>
 
-static const char *const verdicts[] = {"another", "pass", "fail", "referred"};
+static const char *const verdicts[] = {"another", "pass", "fail", "referred", "held"};
 static const char *const decisions[] = {"open", "pass", "fail"};
 
 /* The declared pollutants are those of the records of kind 1, whose byte 1 is the pollutant. */

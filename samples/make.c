@@ -290,6 +290,49 @@ static void increased(void) {
     sample("increased-row-3", ANOTHER_AT_3);
 }
 
+/* Vehicles of plan 4 with the limit 1000: gross emitters measure 1600, each with its cause, and those without one 900. */
+#define PENDING 65535
+#define CAUSES(...) (const uint32_t[]){__VA_ARGS__, END_OF_CAUSES}
+#define END_OF_CAUSES UINT32_MAX
+
+static void vehicles(const char *name, const uint32_t *causes, const char *lines) {
+    pollutant(1, 4, 1000, 0);
+    for (; *causes != END_OF_CAUSES; causes++) engine(*causes, *causes == 0 ? 900 : 1600, 0, 0, 0);
+    sample(name, lines);
+}
+
+#define HELD_AT_3 "held 3 5\n1 open 0\n"
+
+/* Document 02, F-5: "Cause 65,535 now marks a gross emitter whose finding is pending". */
+static void held(void) {
+    vehicles("held", CAUSES(PENDING, 0, 0), HELD_AT_3);
+    vehicles("held-below-row-3", CAUSES(PENDING, 0), "another 2 0\n1 open 0\n");
+    vehicles("held-two-pending", CAUSES(PENDING, PENDING, 0), HELD_AT_3);
+    /* "two equal known causes still fail the series", but not behind the row at which it is held */
+    vehicles("equal-cause-and-pending", CAUSES(7, 7, PENDING), "fail 3 2\n1 open 0\n");
+    vehicles("held-equal-cause-behind", CAUSES(PENDING, 0, 0, 7, 7), HELD_AT_3);
+    /* the sheets of a finding: before it, and with 7 and with 8 entered for engine 1 */
+    vehicles("finding-pending", CAUSES(PENDING, 0, 7), HELD_AT_3);
+    vehicles("finding-7", CAUSES(7, 0, 7), "fail 3 2\n1 open 0\n");
+    vehicles("finding-8", CAUSES(8, 0, 7), ANOTHER_AT_3);
+
+    /* Decided before the pending vehicle; and held at row 4, which would pass with its cause known. */
+    pollutant(1, 4, 1000, 0);
+    measured(3, 500);
+    engine(PENDING, 1600, 0, 0, 0);
+    sample("held-decided-before", "pass 3 1\n1 pass 3\n");
+    four_vehicles("held-at-4", 20, 1501, PENDING, "held 4 5\n1 open 0\n");
+
+    /* "open pollutants stay open"; one that has passed keeps its decision. */
+    pollutant(1, 4, 1000, 0);
+    pollutant(2, 4, 1000, 0);
+    engine(0, 500, 1200, 0, 0);
+    engine(0, 500, 900, 0, 0);
+    engine(0, 500, 1200, 0, 0);
+    engine(PENDING, 500, 1600, 0, 0);
+    sample("held-with-a-pass", "held 4 5\n1 pass 3\n2 open 0\n");
+}
+
 /* A sheet of every pollutant and as many engines as there are rows. T is 0, which only the numbers of row 32 pass; run in,
    an engine at twice the limit counts for the limit. The stop comes after the decision. */
 static void longest_of(const char *name, uint32_t limit, int has_small_engine, int has_run_in) {
@@ -321,14 +364,19 @@ static void others(void) {
     stop();
     sample("stopped", "fail 2 3\n2 open 0\n3 open 0\n");
 
-    /* Two gross emitters of unlike cause among 15: 800 and 1250 by turns leave each row before open. */
-    pollutant(1, 4, 1000, 0);
-    for (int n = 1; n <= 15; n++) {
-        if (n == 5) engine(7, 1501, 0, 0, 0);
-        else if (n == 9) engine(8, 1501, 0, 0, 0);
-        else measured(1, n % 2 == 1 ? 800 : 1250);
+    /* Two gross emitters of unlike cause among 15: 800 and 1250 by turns leave each row before open. With a third that is
+       pending the sheet is full, and held. */
+    for (int is_held = 0; is_held <= 1; is_held++) {
+        pollutant(1, 4, 1000, 0);
+        for (int n = 1; n <= 15; n++) {
+            if (n == 5) engine(7, 1501, 0, 0, 0);
+            else if (n == 9) engine(8, 1501, 0, 0, 0);
+            else if (n == 15 && is_held) engine(PENDING, 1501, 0, 0, 0);
+            else measured(1, n % 2 == 1 ? 800 : 1250);
+        }
+        if (is_held) sample("held-at-15", "held 15 5\n1 open 0\n");
+        else sample("referred", "referred 15 4\n1 open 0\n");
     }
-    sample("referred", "referred 15 4\n1 open 0\n");
 
     /* Plan 3: none over passes at 4; two, three and four over of 3, 4 and 5 fail at 5; one over is open. */
     pollutant(1, 3, 150, 0);
@@ -409,6 +457,12 @@ static void refusals(void) {
     pollutant(1, 4, 10000, 0);
     engine(3, 20, 0, 0, 0);
     refused("refused-09", 9, 1, "engine 1");
+    pollutant(1, 4, 1000, 0);
+    engine(PENDING, 1500, 0, 0, 0);
+    refused("refused-09-pending", 9, 1, "engine 1");
+    pollutant(1, 2, 1000, 0);
+    engine(PENDING, 1501, 0, 0, 0);
+    refused("refused-09-pending-plan-2", 9, 1, "engine 1");
     pollutant(1, 3, 150, 0);
     measured(20, 150);
     refused("refused-10", 10, 20, "engine 20");
@@ -750,6 +804,7 @@ int main(int count, char **words) {
     corrected(1);
     finer();
     increased();
+    held();
     others();
     longest();
     refusals();
@@ -763,6 +818,7 @@ int main(int count, char **words) {
     example();
     corrected(1);
     increased();
+    held();
     small_engines();
     run_ins();
     run_ins_on_a_line();

@@ -4,6 +4,9 @@
 use random::Random;
 use second::{judge, Document, Document01, Ground, Judgement, Verdict, FOUR_POLLUTANTS};
 
+/// "Cause 65,535 now marks a gross emitter whose finding is pending" (F-5).
+const PENDING: u16 = 65_535;
+
 /// One pollutant and what was measured of it.
 struct Series {
     limit: u32,
@@ -55,6 +58,27 @@ pub fn with_run_in(size: usize, sheet: &[u8]) -> Vec<u8> {
     let mut run_in = engines[..size].to_vec();
     run_in[0] = 6;
     [pollutants, &run_in, engines].concat()
+}
+
+/// The sheet of plan 4, of one pollutant, with a gross emitter for its first vehicle, whose cause is
+/// known.
+pub fn with_gross_emitter(size: usize, sheet: &[u8]) -> Vec<u8> {
+    with_cause(size, sheet, 1)
+}
+
+/// The same while the finding is pending: a sheet of three vehicles or more is held at 3.
+pub fn with_pending(size: usize, sheet: &[u8]) -> Vec<u8> {
+    with_cause(size, sheet, PENDING)
+}
+
+/// The first vehicle measures twice the limit.
+fn with_cause(size: usize, sheet: &[u8], cause: u16) -> Vec<u8> {
+    let mut sheet = sheet.to_vec();
+    let (pollutant, engines) = sheet.split_at_mut(size);
+    let limit = u32::from_le_bytes(pollutant[4..8].try_into().expect("four bytes"));
+    engines[2..4].copy_from_slice(&cause.to_le_bytes());
+    engines[4..8].copy_from_slice(&(2 * limit).to_le_bytes());
+    sheet
 }
 
 /// A sheet of 37 records of 20 bytes whose last is refused, so that all are checked, none judged.

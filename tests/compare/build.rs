@@ -17,6 +17,11 @@ fn main() {
         &["conformity_convert", "conformity_report_sized"],
         "compare_convert",
     );
+    seal::link(
+        "conformity",
+        &["conformity_finding", "conformity_report_sized"],
+        "compare_findings",
+    );
     seal::link("conformity", &["conformity_declared"], "compare_declared");
     seal::link(
         "probe",

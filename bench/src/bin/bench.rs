@@ -4,8 +4,8 @@
 use bench::sheets;
 use bench::timing::{against, time};
 use entries::{conformity_append, conformity_append_sized, conformity_convert};
-use entries::{conformity_report, conformity_report_sized};
-use second::{append, convert, report, Document, Document01, Refusal};
+use entries::{conformity_finding, conformity_report, conformity_report_sized};
+use second::{append, convert, finding, report, Document, Document01, Refusal};
 use second::{FOUR_POLLUTANTS, LONGEST_REPORT, PLANS, SIX_POLLUTANTS, SIZES};
 use std::ffi::c_void;
 use std::hint::black_box;
@@ -24,7 +24,7 @@ extern "C" {
 /// How many different sheets each row is timed on.
 const SHEETS: usize = 64;
 const BY_SECOND: f64 = 0.7;
-/// The same of the check alone and of append alone.
+/// The same of the check alone, of append alone and of a finding.
 const PART_BY_SECOND: f64 = 1.0;
 const GROWTH: f64 = 4.5;
 
@@ -32,15 +32,19 @@ const GROWTH: f64 = 4.5;
 const SIX_BY_FOUR: f64 = 1.6;
 
 /// F-1 and F-2: no small engine and no run-in values "in plan 4".
-const PLANS_OF_PRODUCTION: [u8; 4] = [1, 2, 3, 5];
+const PRODUCTION: &[u8] = &[1, 2, 3, 5];
+/// Gross emitters are of plan 4 alone.
+const IN_SERVICE: u8 = 4;
 
-/// Puts a record in.
+/// Puts something into a sheet.
 type PutIn = fn(usize, &[u8]) -> Vec<u8>;
 
-/// The records that are put into typical sheets.
-const PUT_IN: [(&str, PutIn); 2] = [
-    ("a small engine", sheets::with_small_engine),
-    ("run-in values", sheets::with_run_in),
+/// What is put into typical sheets, and in which plans.
+const PUT_IN: [(&str, PutIn, &[u8]); 4] = [
+    ("a small engine", sheets::with_small_engine, PRODUCTION),
+    ("run-in values", sheets::with_run_in, PRODUCTION),
+    ("a gross emitter", sheets::with_gross_emitter, &[IN_SERVICE]),
+    ("a pending finding", sheets::with_pending, &[IN_SERVICE]),
 ];
 
 /// The room for a report of either size.
@@ -48,6 +52,7 @@ type Output = [u8; LONGEST_REPORT];
 type Report = fn(&[u8], &mut Output) -> u32;
 type Append = fn(&mut [u8], usize, &[u8]) -> u32;
 type Convert = fn(&[u8], &mut [u8]) -> u32;
+type Enter = fn(&mut [u8], u32, u32) -> u32;
 
 // SAFETY of the calls below: every pointer is that of a slice, and its length goes with it.
 fn library_report(sheet: &[u8], output: &mut Output) -> u32 {
@@ -83,6 +88,10 @@ fn library_convert_from<const SIZE: usize>(sheet: &[u8], output: &mut [u8]) -> u
     unsafe { conformity_convert(SIZE, sheet.as_ptr(), sheet.len(), place, length) }
 }
 
+fn library_finding_by<const SIZE: usize>(sheet: &mut [u8], engine: u32, cause: u32) -> u32 {
+    unsafe { conformity_finding(SIZE, sheet.as_mut_ptr(), sheet.len(), engine, cause) }
+}
+
 #[inline(never)]
 fn second_report_by<const SIZE: usize>(sheet: &[u8], output: &mut Output) -> u32 {
     code(report(&Document01, SIZE, sheet, &mut output[..SIZE]))
@@ -98,6 +107,11 @@ fn second_convert_from<const SIZE: usize>(sheet: &[u8], output: &mut [u8]) -> u3
     code(convert(&Document01, SIZE, sheet, output))
 }
 
+#[inline(never)]
+fn second_finding_by<const SIZE: usize>(sheet: &mut [u8], engine: u32, cause: u32) -> u32 {
+    code(finding(&Document01, SIZE, sheet, engine, cause))
+}
+
 fn code(answer: Result<(), Refusal>) -> u32 {
     answer.err().map_or(0, Refusal::code)
 }
@@ -110,6 +124,7 @@ fn main() {
     print_growth();
     print_check();
     print_append();
+    print_finding();
     print_heap();
     print_stack();
 }
@@ -243,14 +258,14 @@ fn print_size(title: &str, [four, six]: &[Vec<Vec<u8>>; 2], by_four: fn(f64) -> 
     );
 }
 
-/// Typical sheets with a small engine or run-in values, by the same without that record.
+/// Typical sheets with what is put in, by the same without it.
 fn print_put_in() {
-    for (name, put_in) in PUT_IN {
+    for (name, put_in, plans) in PUT_IN {
         println!(
             "report of typical sheets with {name}, time of the library by that of the same \
              without:"
         );
-        for plan in PLANS_OF_PRODUCTION {
+        for &plan in plans {
             let without = sheets::typical(FOUR_POLLUTANTS, plan, SHEETS);
             let with = typical_with(FOUR_POLLUTANTS, plan, put_in);
             let times = time(&mut [
@@ -338,12 +353,47 @@ fn append_last(append: Append, size: usize, sheet: &mut [u8]) {
     black_box(append(sheet, used, black_box(record)));
 }
 
+/// The finding of the first vehicle, of typical sheets of plan 4 that are held.
+fn print_finding() {
+    let sheets = typical_with(FOUR_POLLUTANTS, IN_SERVICE, sheets::with_pending);
+    let entering = |enter: Enter| {
+        let mut sheets = sheets.clone();
+        move || {
+            for sheet in &mut sheets {
+                enter_first(enter, FOUR_POLLUTANTS, sheet);
+            }
+        }
+    };
+    let times = time(&mut [
+        &mut entering(library_finding_by::<FOUR_POLLUTANTS>),
+        &mut entering(second_finding_by::<FOUR_POLLUTANTS>),
+        &mut reporting(library_report, &sheets),
+    ]);
+    println!("a finding for the first vehicle of a held sheet, time of the library:");
+    println!(
+        "  by the second {}, by a report of the sheet {:5.2}",
+        against(times.ratio(0, 1), PART_BY_SECOND),
+        times.ratio(0, 2)
+    );
+}
+
+/// The finding of the first vehicle, if the sheet has one pollutant and the finding is pending; the
+/// cause is as it was afterwards.
+fn enter_first(enter: Enter, size: usize, sheet: &mut [u8]) {
+    let place = size + 2..size + 4;
+    let mut cause = [0; 2];
+    cause.copy_from_slice(&sheet[place.clone()]);
+    black_box(enter(sheet, 1, black_box(7)));
+    sheet[place].copy_from_slice(&cause);
+}
+
 /// One implementation of each operation, for one size.
 struct Operations {
     size: usize,
     report: Report,
     append: Append,
     convert: Convert,
+    enter: Enter,
 }
 
 const LIBRARY: [Operations; 2] = [
@@ -352,12 +402,14 @@ const LIBRARY: [Operations; 2] = [
         report: library_report,
         append: library_append,
         convert: library_convert_from::<FOUR_POLLUTANTS>,
+        enter: library_finding_by::<FOUR_POLLUTANTS>,
     },
     Operations {
         size: SIX_POLLUTANTS,
         report: library_report_by::<SIX_POLLUTANTS>,
         append: library_append_by::<SIX_POLLUTANTS>,
         convert: library_convert_from::<SIX_POLLUTANTS>,
+        enter: library_finding_by::<SIX_POLLUTANTS>,
     },
 ];
 
@@ -367,12 +419,14 @@ const SECOND: [Operations; 2] = [
         report: second_report_by::<FOUR_POLLUTANTS>,
         append: second_append_by::<FOUR_POLLUTANTS>,
         convert: second_convert_from::<FOUR_POLLUTANTS>,
+        enter: second_finding_by::<FOUR_POLLUTANTS>,
     },
     Operations {
         size: SIX_POLLUTANTS,
         report: second_report_by::<SIX_POLLUTANTS>,
         append: second_append_by::<SIX_POLLUTANTS>,
         convert: second_convert_from::<SIX_POLLUTANTS>,
+        enter: second_finding_by::<SIX_POLLUTANTS>,
     },
 ];
 
@@ -399,7 +453,8 @@ impl Work {
                 black_box((operations.report)(sheet, &mut output));
                 append_last(operations.append, operations.size, sheet);
                 black_box((operations.convert)(sheet, &mut self.room));
-                calls += 3;
+                enter_first(operations.enter, operations.size, sheet);
+                calls += 4;
             }
         }
         calls
@@ -410,9 +465,9 @@ impl Work {
 fn all_sheets(size: usize) -> Vec<Vec<u8>> {
     let full = (1..=PLANS).flat_map(|plan| full(size, plan));
     let typical = (1..=PLANS).flat_map(|plan| sheets::typical(size, plan, SHEETS));
-    let put_in = PUT_IN.into_iter().flat_map(|(_, put_in)| {
-        let plans = PLANS_OF_PRODUCTION.into_iter();
-        plans.flat_map(move |plan| typical_with(size, plan, put_in))
+    let put_in = PUT_IN.into_iter().flat_map(|(_, put_in, plans)| {
+        let plans = plans.iter();
+        plans.flat_map(move |&plan| typical_with(size, plan, put_in))
     });
     let mut sheets: Vec<Vec<u8>> = full.chain(typical).chain(put_in).collect();
     if size == FOUR_POLLUTANTS {

@@ -1,5 +1,5 @@
 -- The declared pollutants of an accepted sheet by their number, 1 to w, where the definitions go through the list of those declared.
-use Rattle.arithmetic.proofs.Basics.{ℕ, zero, suc, _≤_, _<_, arith, _≡_, refl, true, false, not, _||_, cond, List, [], _∷_, _++_, map, append-nil, leb, eqb}
+use Rattle.arithmetic.proofs.Basics.{ℕ, zero, suc, _≤_, _<_, arith, _≡_, refl, ap, _∙_, true, false, not, _||_, cond, List, [], _∷_, _++_, map, append-nil, leb, eqb}
 use Rattle.arithmetic.proofs.Basics.{eqb-true, eqb-false, not-false, leb-false, in-range, or-false, or-true, by-test, any-snoc, map-append}
 use Rattle.rules.specs.Tools.{any, within}
 use Rattle.rules.specs.Logarithm.{greatest}
@@ -13,14 +13,19 @@ abbrev pub InOrder : (w m : ℕ) → List Pollutant → Type 0
 InOrder w m [] = Unit {0}
 InOrder w m (c ∷ ps) = (m < c .number) × (c .number ≤ w) × (1 ≤ c .limit) × (c .limit ≤ greatest) × (c .deviation ≤ greatestDeviation) × InOrder w (c .number) ps
 
--- the pollutants with one record more
+-- the pollutants of joined records, and with one record more
+pub declared-join : (rs ts : List Record) → declared (rs ++ ts) ≡ declared rs ++ declared ts
+unfolding declared
+declared-join rs ts =
+    ap (map pollutant) (ofKind-append pollutantKind rs ts) ∙ map-append pollutant (ofKind pollutantKind rs) (ofKind pollutantKind ts)
+
 pub declared-one : (before : List Record) (r : Record) → eqb (kind r) pollutantKind ≡ true → declared (before ++ (r ∷ [])) ≡ declared before ++ (pollutant r ∷ [])
 unfolding declared ofKind
-declared-one before r e = rw (ofKind-append pollutantKind before (r ∷ []), e) (map-append pollutant (ofKind pollutantKind before) (r ∷ []))
+declared-one before r e = rw (declared-join before (r ∷ []), e) refl
 
 pub declared-other : (before : List Record) (r : Record) → eqb (kind r) pollutantKind ≡ false → declared (before ++ (r ∷ [])) ≡ declared before
 unfolding declared ofKind
-declared-other before r e = rw (ofKind-append pollutantKind before (r ∷ []), e, append-nil) refl
+declared-other before r e = rw (declared-join before (r ∷ []), e, append-nil) refl
 
 pub newest-snoc : (ps : List Pollutant) (c : Pollutant) → newest (ps ++ (c ∷ [])) ≡ c .number
 newest-snoc [] c = refl

@@ -1,8 +1,8 @@
 -- The causes of an accepted sheet: in plan 4 the gross emitters are the vehicles with a cause, and in the other plans there is none.
-use Rattle.arithmetic.proofs.Basics.{ℕ, arith, _≡_, refl, sym, Bool, true, false, not, _&&_, cond, List, [], _∷_, _++_, append-assoc, append-nil, eqb, eqb-true}
-use Rattle.arithmetic.proofs.Basics.{ne-eqb, in-range, never, by-test, any-last}
+use Rattle.arithmetic.proofs.Basics.{ℕ, _≡_, refl, sym, Bool, true, false, not, _&&_, _||_, cond, List, [], _∷_, _++_, append-assoc, append-nil, eqb, eqb-true}
+use Rattle.arithmetic.proofs.Basics.{ne-eqb, never, by-test, any-last}
 use Rattle.rules.specs.Tools.{within}
-use Rattle.rules.specs.Sheet.{Record, Pollutant, pollutantKind, engineKind, measures, kind, cause, ofKind, engines, planNumber, declared, gross}
+use Rattle.rules.specs.Sheet.{Record, Pollutant, pollutantKind, engineKind, measures, kind, cause, isPending, ofKind, engines, planNumber, declared, gross}
 use Rattle.rules.specs.Plans.{inService, numberOf}
 use Rattle.rules.specs.Refusals.{misplaced, badMeasurement, badCause, greatestCause}
 use Rattle.accepted.proofs.Faultless.{Clean, faultless, isOther, ofKind-append, no-pollutants}
@@ -14,11 +14,11 @@ abbrev pub Caused : (inService : Bool) → List Pollutant → List Record → Ty
 Caused b ps [] = Unit {0}
 Caused b ps (e ∷ es) = (b && gross ps e ≡ hasCause e) × Caused b ps es
 
-cause-fine : (n : ℕ) (ps : List Pollutant) (r : Record) → badCause n ps r ≡ false → eqb n (numberOf inService) && gross ps r ≡ hasCause r
+pub cause-fine : (n : ℕ) (ps : List Pollutant) (r : Record) → badCause n ps r ≡ false → eqb n (numberOf inService) && gross ps r ≡ hasCause r
 unfolding badCause
 cause-fine n ps r e =
-    by-test (λ t. cond t (not (within 1 greatestCause (cause r))) (hasCause r) ≡ false → t ≡ hasCause r) (eqb n (numberOf inService) && gross ps r)
-    (λ q f. rw (ne-eqb (cause r) 0 (λ z. omega (arith, in-range 1 greatestCause (cause r) f))) refl) (λ q f. sym f) e
+    by-test (λ t. cond t (not (within 1 greatestCause (cause r) || isPending (cause r))) (hasCause r) ≡ false → t ≡ hasCause r) (eqb n (numberOf inService) && gross ps r)
+    (λ q f. rw (ne-eqb (cause r) 0 (λ z. let o : true ≡ false = rw z at f in never o)) refl) (λ q f. sym f) e
 
 -- pollutants and plan are those of the records before an engine
 pub declared-append : (rs ts : List Record) → ofKind pollutantKind ts ≡ [] → declared (rs ++ ts) ≡ declared rs

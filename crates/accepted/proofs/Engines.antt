@@ -3,7 +3,8 @@
 use Rattle.arithmetic.proofs.Basics.{ℕ, zero, suc, _+_, _-_, _≤_, _<_, arith, _≡_, refl, sym, ap, _∙_, ⊎-elim, true, false, not, cond, List, [], _∷_, _++_, append-nil, eqb, length, getD, length-append, List·getD-append}
 use Rattle.arithmetic.proofs.Basics.{getD-append-add, eqb-true, never, by-test, lt-or-ge, any-last}
 use Rattle.rules.specs.Sheet.{Record, pollutantKind, engineKind, stopKind, smallEngineKind, runInKind, kind, ofKind, heading, engines, runIns}
-use Rattle.accepted.proofs.Faultless.{Clean, faultless, by-kind, isOther, isMeasured, no-pollutants, no-small-engines, no-run-ins, no-heading, nothing-after}
+use Rattle.accepted.proofs.Faultless.{Clean, clean-append, faultless, by-kind, isOther, isMeasured, heading-append, ofKind-none, placed-so}
+use Rattle.accepted.proofs.Faultless.{no-pollutants, no-small-engines, no-run-ins, no-heading, nothing-after}
 
 pub layout : (w : ℕ) (before rs : List Record) → Clean w before rs → rs ≡ heading rs ++ (ofKind engineKind rs ++ ofKind stopKind rs)
 unfolding heading ofKind
@@ -67,21 +68,32 @@ engine-at w rs c j h =
 pub counts : (w : ℕ) (rs : List Record) → Clean w [] rs → length rs ≡ length (heading rs) + (length (engines rs) + length (ofKind stopKind rs))
 counts w rs c = ap length (layout w [] rs c) ∙ simp length-append
 
--- ---- the run-in values
+-- an engine's record stands behind the heading and the engines before it
+pub engine-behind : (w : ℕ) (us : List Record) (v : Record) (ws : List Record) → kind v ≡ engineKind → Clean w [] (us ++ (v ∷ ws))
+    → length us ≡ length (heading (us ++ (v ∷ ws))) + length (engines us)
+unfolding heading
+engine-behind w us v ws k c =
+    let a = clean-append w [] us (v ∷ ws) c in
+    let s : ofKind stopKind us ≡ [] = ofKind-none stopKind us (placed-so us v (faultless w us v (a .1 .0) .placed) .1) in
+    let h : heading (us ++ (v ∷ ws)) ≡ heading us =
+    heading-append us (v ∷ ws) ∙ rw (k, no-heading w us v ws (rw k refl) (a .1 .1)) (append-nil (heading us)) in
+    rw h (omega (arith, counts w us (a .0), ap length s))
+
+-- ---- the records of a kind
 
 kind-first : (k : ℕ) (r : Record) (rs : List Record) → kind r ≡ k → ((i : ℕ) → i < length rs → kind (getD rs i []) ≡ k)
     → (i : ℕ) → i < length (r ∷ rs) → kind (getD (r ∷ rs) i []) ≡ k
 kind-first k r rs e h zero l = e
 kind-first k r rs e h (suc i) l = h i (omega arith)
 
-kind-in : (k : ℕ) (rs : List Record) (i : ℕ) → i < length (ofKind k rs) → kind (getD (ofKind k rs) i []) ≡ k
+pub kind-in : (k : ℕ) (rs : List Record) (i : ℕ) → i < length (ofKind k rs) → kind (getD (ofKind k rs) i []) ≡ k
 unfolding ofKind
 kind-in k [] = λ i h. absurd (omega arith)
 kind-in k (r ∷ rs) =
     by-test (λ t. (i : ℕ) → i < length (cond t (r ∷ ofKind k rs) (ofKind k rs)) → kind (getD (cond t (r ∷ ofKind k rs) (ofKind k rs)) i []) ≡ k)
     (eqb (kind r) k) (λ e. kind-first k r (ofKind k rs) (eqb-true (kind r) k e) (kind-in k rs)) (λ e. kind-in k rs)
 
--- they are the last record of the heading, where it is of their kind
+-- the run-in values are the last record of the heading, where it is of their kind
 pub run-in-last : (w : ℕ) (rs : List Record) → Clean w [] rs → 1 ≤ length (heading rs) → (l : Record) → l ≡ getD rs (length (heading rs) - 1) []
     → runIns rs ≡ cond (eqb (kind l) runInKind) (l ∷ []) []
 run-in-last w rs c h l e = cases (runIns rs) refl

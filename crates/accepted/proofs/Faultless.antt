@@ -1,11 +1,12 @@
 -- The records of an accepted sheet, each of which has no fault after those before it.
 use Rattle.arithmetic.proofs.Basics.{ℕ, zero, suc, _*_, _%_, _≤_, arith, _≡_, refl, sym, ap, _∙_, Bool, true, false, not, _&&_, _||_, cond, List, [], _∷_, _++_}
-use Rattle.arithmetic.proofs.Basics.{append-assoc, append-nil, eqb, leb, ltb, length, eqb-true, eqb-false, not-false, ne-eqb, lt-leb, ltb-false}
+use Rattle.arithmetic.proofs.Basics.{append-assoc, append-nil, eqb, leb, ltb, length, eqb-true, eqb-false, not-false, ne-eqb, lt-leb, le-ltb, ltb-false}
 use Rattle.arithmetic.proofs.Basics.{never, or-false, and-left, and-right, and-never, by-test, any-left, any-last, any-or, those-append}
 use Rattle.rules.specs.Tools.{any}
 use Rattle.rules.specs.Sheet.{Record, size, most, records, pollutantKind, engineKind, stopKind, smallEngineKind, runInKind, measures, kind, ofKind, heading, planNumber, declared, stopped}
 use Rattle.rules.specs.Refusals.{isKind, misplaced, lastKind, badSmallEngine, badRunIn, badNumber, badPlan, badLimit, badDeviation, badMeasurement, badCause, tooMany, unused, Fault, fault, first, faults, faultOf}
 use Rattle.rules.specs.Refusals.{Check, accepted, refused, checkFrom, badLength, check}
+use Rattle.rules.specs.Operations.{andThen}
 
 -- ---- each record has no fault after those before it
 
@@ -49,6 +50,10 @@ pub cond-accepted : (n : ℕ) (t : Bool) (c : Check) → cond t (refused n 0) c 
 cond-accepted n true c e = let z : true ≡ false = cc in never z
 cond-accepted n false c e = (refl, e)
 
+pub then-accepted : (c d : Check) → andThen c d ≡ accepted → (c ≡ accepted) × (d ≡ accepted)
+then-accepted accepted d e = (refl, e)
+then-accepted (refused n p) d e = let z : true ≡ false = cc in never z
+
 -- refusal 1
 pub length-fine : (w n : ℕ) → badLength w n ≡ false → (1 ≤ n) × ((n % size w ≡ 0) × (n ≤ most w * size w))
 unfolding badLength
@@ -64,6 +69,14 @@ sound w b e =
     let p = cond-accepted 1 (badLength w (length b)) (checkFrom w [] (records w b)) e in
     let l = length-fine w (length b) (p .0) in
     record { some = l .0; whole = l .1 .0; longest = l .1 .1; clean = clean-of w [] (records w b) (p .1) }
+
+-- and the check accepts what is so
+pub sound-accepted : (w : ℕ) (b : List ℕ) → Sound w b → check w b ≡ accepted
+unfolding check checkFrom badLength
+sound-accepted w b s =
+    let l = s .some in
+    let e : checkFrom w [] (records w b) ≡ accepted = rw append-nil at (check-clean w [] (records w b) [] (s .clean)) in
+    rw (ne-eqb (length b) 0 (λ z. omega arith), s .whole, le-ltb (most w * size w) (length b) (s .longest)) e
 
 -- ---- the single faults: the one place that knows their order
 
@@ -140,6 +153,10 @@ isOther r = not (eqb (kind r) pollutantKind)
 pub ofKind-append : (k : ℕ) (rs ts : List Record) → ofKind k (rs ++ ts) ≡ ofKind k rs ++ ofKind k ts
 unfolding ofKind
 ofKind-append k rs ts = those-append (λ r. eqb (kind r) k) rs ts
+
+pub heading-append : (rs ts : List Record) → heading (rs ++ ts) ≡ heading rs ++ heading ts
+unfolding heading
+heading-append rs ts = those-append (λ r. not (eqb (kind r) engineKind || eqb (kind r) stopKind)) rs ts
 
 -- no record of the kind k
 pub ofKind-none : (k : ℕ) (rs : List Record) → any (λ r. eqb (kind r) k) rs ≡ false → ofKind k rs ≡ []

@@ -1,7 +1,8 @@
--- The records of a sheet's bytes: of joined bytes, and one by one.
+-- The records of a sheet's bytes: of joined bytes, one by one, and with a byte changed.
 use Rattle.arithmetic.proofs.Basics.{ℕ, zero, suc, _+_, _*_, _/_, _%_, _≤_, _<_, zero-add, suc-add, mul-zero, mul-suc, div-add-mod, mul-add-div, add-assoc}
 use Rattle.arithmetic.proofs.Basics.{arith, _≡_, refl, ap, _∙_, List, [], _∷_, _++_, length, getD, take, drop, length-append, length-drop, take-append-le}
-use Rattle.arithmetic.proofs.Basics.{drop-append-le, drop-drop, getD-take, getD-drop}
+use Rattle.arithmetic.proofs.Basics.{drop-append-le, drop-drop, getD-take, getD-drop, set, length-set, take-set-le, take-set-lt, drop-set-lt, drop-set-add}
+use Rattle.arithmetic.proofs.Basics.{length-take-le, le-trans, mul-le-mul-left, mul-div-le}
 use Rattle.rules.specs.Tools.{four}
 use Rattle.rules.specs.Sheet.{Record, size, cut, records}
 
@@ -53,6 +54,28 @@ length-cut s (suc n) b = ap suc (length-cut s n (drop s b))
 pub length-records : (w : ℕ) (b : List ℕ) → length (records w b) ≡ length b / size w
 unfolding records
 length-records w b = length-cut (size w) (length b / size w) b
+
+pub length-record : (w : ℕ) (b : List ℕ) (j : ℕ) → j < length b / size w → length (getD (records w b) j []) ≡ size w
+length-record w b j h =
+    let l : size w * suc j ≤ length b = le-trans (mul-le-mul-left (size w) h) (mul-div-le (length b) (size w)) in
+    rw (record-at w b j h) (length-take-le (size w) (drop (size w * j) b) (rw length-drop (omega arith)))
+
+-- ---- with one byte changed: byte k of record j
+
+cut-set : (s n : ℕ) (b : List ℕ) (j k v : ℕ) → j < n → k < s → cut s n (set b (s * j + k) v) ≡ set (cut s n b) j (set (getD (cut s n b) j []) k v)
+unfolding cut
+cut-set s zero b j k v h l = absurd (omega arith)
+cut-set s (suc n) b zero k v h l =
+    let e : s * 0 + k ≡ k = omega (arith, mul-zero s) in
+    rw (e, take-set-lt s b k v l, drop-set-lt s b k v l) refl
+cut-set s (suc n) b (suc j) k v h l =
+    let e : s * suc j + k ≡ s + (s * j + k) = omega (arith, mul-suc s j) in
+    rw (e, take-set-le s b (s + (s * j + k)) v (omega arith), drop-set-add s b (s * j + k) v, cut-set s n (drop s b) j k v (omega arith) l) refl
+
+pub records-set : (w : ℕ) (b : List ℕ) (j k v : ℕ) → j < length b / size w → k < size w
+    → records w (set b (size w * j + k) v) ≡ set (records w b) j (set (getD (records w b) j []) k v)
+unfolding records
+records-set w b j k v h l = rw (length-set b (size w * j + k) v) (cut-set (size w) (length b / size w) b j k v h l)
 
 -- ---- four bytes of a part
 

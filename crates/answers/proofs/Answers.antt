@@ -1,11 +1,12 @@
 -- Judging refuses what the check refuses, with its number and record, and judges the records of what it accepts.
-use Rattle.arithmetic.proofs.Basics.{ℕ, _≡_, refl, sym, ap, _∙_, Bool, true, false, List, length}
+use Rattle.arithmetic.proofs.Basics.{ℕ, _≡_, refl, sym, ap, _∙_, Bool, true, false, List, length, never}
 use Rattle.rules.specs.Sheet.{Record, records, engines, runIns, stopped, planNumber, declared}
 use Rattle.rules.specs.Plans.{planOf}
-use Rattle.rules.specs.Series.{Series, ongoing, passed, failed, referred, after, Pair, Answer, refusal, judgement}
+use Rattle.rules.specs.Series.{Series, ongoing, passed, failed, referred, held, after, Pair, Answer, refusal, judgement}
 use Rattle.rules.specs.Series.{answer, judgeRecords}
 use Rattle.rules.specs.Refusals.{Check, accepted, refused, check}
 use Rattle.rules.specs.Operations.{judgeBy, judge}
+use Rattle.rules.specs.Demands.{Says, Accepted}
 
 -- the series of a sheet's records, after all of its engines
 abbrev pub seriesOf : (q : ℕ) → List Record → Series
@@ -25,6 +26,7 @@ answered : (w : ℕ) (stop : Bool) (n : ℕ) (s : Series) → checkIn (answer w 
 answered w stop n (passed m ss) = refl
 answered w stop n (failed m ground ss) = refl
 answered w stop n (referred m ss) = refl
+answered w stop n (held m ss) = refl
 answered w true n (ongoing ss) = refl
 answered w false n (ongoing ss) = refl
 
@@ -46,3 +48,11 @@ module _ (w q : ℕ) (b : List ℕ) where
   pub judgement-accepted : {v n ground : ℕ} {pairs : List Pair} → judge w q b ≡ judgement v n ground pairs
       → check w b ≡ accepted
   judgement-accepted e = sym judge-check ∙ ap checkIn e
+
+  -- and there always
+  pub accepted-judgement : check w b ≡ accepted → Accepted w q b
+  accepted-judgement e = cases (judge w q b) (judge-check ∙ e)
+    where
+      cases : (a : Answer) → checkIn a ≡ accepted → (v : ℕ) × (n : ℕ) × Says a v n
+      cases (refusal number place) f = let z : true ≡ false = cc in never z
+      cases (judgement v n ground pairs) f = (v, n, (ground, pairs, refl))

@@ -4,8 +4,8 @@ use Rattle.arithmetic.proofs.Basics.{eqb, length, take, length-append, length-m
 use Rattle.rules.specs.Tools.{any, all, within}
 use Rattle.rules.specs.Sheet.{Record, Pollutant, size, most, records, numbers, engines, runIns, stopped, planNumber, declared}
 use Rattle.rules.specs.Plans.{Plan, planOf}
-use Rattle.rules.specs.Series.{Standing, Series, ongoing, passed, failed, referred, hasFailed, hasPassed, settleBy, settle}
-use Rattle.rules.specs.Series.{Before, early, equalCause, referral, leftOpen, statistics, beforeRow, rowBy, walk, after}
+use Rattle.rules.specs.Series.{Standing, Series, ongoing, passed, failed, referred, held, hasFailed, hasPassed, settleBy, settle}
+use Rattle.rules.specs.Series.{Before, early, equalCause, findingPending, referral, leftOpen, statistics, beforeRow, rowBy, walk, after}
 use Rattle.rules.specs.Series.{pairs, Answer, refusal, judgement, answer, judgeRecords}
 use Rattle.rules.specs.Refusals.{Fault, fault, first, faults, faultOf, Check, accepted, refused, checkFrom, badLength, check}
 use Rattle.accepted.proofs.Records.{length-records}
@@ -60,15 +60,16 @@ check-range w b =
     let k = div-le-of-le-mul (size w) {m = length b} {n = most w} (omega arith) in
     from-range w (most w) [] (records w b) (rw (length-records w b) (omega arith)))
 
--- ---- a series that is decided at engine n, or goes on; the ground of a fail in it is at most 2
+-- ---- a series that is decided or held at engine n, or goes on; the ground of a fail in it is at most 2
 
 abbrev pub DecidedAt : (n : ℕ) → Series → Type 0
 DecidedAt n (ongoing ss) = Unit {0}
 DecidedAt n (passed m ss) = m ≡ n
 DecidedAt n (failed m ground ss) = (m ≡ n) × (ground ≤ 2)
 DecidedAt n (referred m ss) = m ≡ n
+DecidedAt n (held m ss) = m ≡ n
 
--- a row that decides does so at its own engine
+-- a row that decides, or holds, does so at its own engine
 settled-at : (n : ℕ) (ss : List Standing) → DecidedAt n (settle n ss)
 unfolding settle
 settled-at n ss = cases (any (λ s. hasFailed (s .decision)) ss) (all (λ s. hasPassed (s .decision)) ss)
@@ -82,12 +83,13 @@ module _ (plan : Plan) (vs : List Record) (q : ℕ) where
   row-at : (b : Before) (n : ℕ) (first : List Record) (ss : List Standing) → DecidedAt n (rowBy b plan vs q n first ss)
   row-at early n first ss = tt
   row-at equalCause n first ss = omega arith
+  row-at findingPending n first ss = refl
   row-at referral n first ss = refl
   row-at leftOpen n first ss = tt
   row-at statistics n first ss = settled-at n _
 
   module _ (ps : List Pollutant) (es : List Record) where
-    -- so a series after n engines is that after m of them, at which it is decided or goes on
+    -- so a series after n engines is that after m of them, at which it is decided, is held or goes on
     abbrev pub Made : (n : ℕ) → Series → Type 0
     Made n s = (m : ℕ) × (m ≤ n) × DecidedAt m s × (after plan ps vs q es m ≡ s)
 
@@ -97,6 +99,7 @@ module _ (plan : Plan) (vs : List Record) (q : ℕ) where
     walk-made n (passed m ss) e h = (h .0, omega (arith, h .1), h .2, h .3)
     walk-made n (failed m ground ss) e h = (h .0, omega (arith, h .1), h .2, h .3)
     walk-made n (referred m ss) e h = (h .0, omega (arith, h .1), h .2, h .3)
+    walk-made n (held m ss) e h = (h .0, omega (arith, h .1), h .2, h .3)
 
     pub after-made : (n : ℕ) → Made n (after plan ps vs q es n)
     unfolding after
@@ -107,7 +110,7 @@ module _ (plan : Plan) (vs : List Record) (q : ℕ) where
 
 abbrev pub JudgementIn : (w n : ℕ) → Answer → Type 0
 JudgementIn w n (refusal number place) = ⊥
-JudgementIn w n (judgement v m ground pairs) = (v ≤ 3) × (m ≤ n) × (ground ≤ 4) × (length pairs ≡ w)
+JudgementIn w n (judgement v m ground pairs) = (v ≤ 4) × (m ≤ n) × (ground ≤ 5) × (length pairs ≡ w)
 
 length-numbers : (w : ℕ) → length (numbers w) ≡ w
 length-numbers zero = refl
@@ -121,6 +124,7 @@ answer-range : (w : ℕ) (stop : Bool) (n m : ℕ) (s : Series) → m ≤ n → 
 answer-range w stop n m (passed k ss) l h = omega (arith, length-pairs w ss)
 answer-range w stop n m (failed k ground ss) l h = omega (arith, h, length-pairs w ss)
 answer-range w stop n m (referred k ss) l h = omega (arith, length-pairs w ss)
+answer-range w stop n m (held k ss) l h = omega (arith, length-pairs w ss)
 answer-range w true n m (ongoing ss) l h = omega (arith, length-pairs w ss)
 answer-range w false n m (ongoing ss) l h = omega (arith, length-pairs w ss)
 

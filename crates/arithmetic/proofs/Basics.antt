@@ -14,11 +14,13 @@ pub use lib.ListN.{length, getD, length-append, List·getD-append, take, drop, l
 pub use lib.ListN.{length-set, List·getD-eq-default, length-take, replicate, length-replicate, getD-replicate, replicate-append-replicate}
 pub use lib.Seq.{getD-append-add, take-append-le, drop-append-le, drop-drop, getD-take, getD-drop, take-suc, length-take-le, drop-at, take-all, take-length}
 pub use lib.Seq.{drop-cons, drop-length, getD-set-same, take-suc-set, take-take, take-at, take-nil, take-append-add, take-append-seam, drop-append-seam, ext-getD}
+pub use lib.Seq.{getD-set-other, take-set-le, take-set-lt, drop-set-lt, drop-set-add, set-set, set-split, split-at, set-at, getD-at}
 pub use lib.IntN.{ℤ, pos, negℤ, _*ℤ_, _+ℤ_, _-ℤ_, negsuc, natAbs}
 pub use lib.Signed.{ltZ, leZ, mag, nonNeg}
 pub use borrow.Author.Tests.{eqb-true, eqb-false, not-false, leb-false, ne-eqb, leb-true, lt-leb, ltb-false, le-leb, eq-eqb, le-ltb, ltb-true, lt-ltb, not-true}
 pub use borrow.Author.Needs.{needs}
 pub use Rattle.arithmetic.proofs.Booleans.{or-false, or-true, by-test, never, and-true, and-left, and-right, and-never, or-same, not-or, or-right}
-pub use Rattle.arithmetic.proofs.Booleans.{and-follows, cond-follows, or-swap, or-assoc}
+pub use Rattle.arithmetic.proofs.Booleans.{or-follows, and-follows, cond-follows, or-swap, or-assoc}
 pub use Rattle.arithmetic.proofs.Order.{lt-or-ge, not-ltb, ltb-same, in-range, twice, leb-same}
 pub use Rattle.arithmetic.proofs.Lists.{any-append, any-snoc, map-append, take-map, any-last, any-left, those-append, length-those, any-update, any-part, any-none, any-same, any-or, any-implies}
+pub use Rattle.arithmetic.proofs.Lists.{any-more, any-without, those-without, those-with, any-those}

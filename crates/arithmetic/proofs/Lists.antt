@@ -1,13 +1,13 @@
--- Tests over lists: what `any` and `those` say of joined lists.
+-- Tests over lists: what `any` and `those` say of joined lists, and of one element more.
 use Prim.Native.Nat.{ℕ, zero, suc, _≤_}
 use native.Mathlib.Omega.{arith}
 use mathlib.Core.Path.{_≡_, refl, sym, ap, _∙_}
 use mathlib.Core.Bool.{Bool, true, false, _||_, cond}
 use mathlib.Core.List.{List, [], _∷_, _++_, map}
-use lib.Dec.{eqb}
+use lib.Dec.{leb, eqb}
 use lib.ListN.{length, getD, take, drop}
 use lib.Seq.{take-nil}
-use borrow.Author.Tests.{eqb-true, eqb-false}
+use borrow.Author.Tests.{eqb-true, eqb-false, le-leb}
 use Rattle.rules.specs.Tools.{any, those}
 use Rattle.arithmetic.proofs.Booleans.{or-false, or-same, or-true, or-assoc, or-between, or-right, or-follows, by-test}
 
@@ -31,6 +31,27 @@ module _ {A : Type 0} (test : A → Bool) where
       rw (those-append xs ys)
       (by-test (λ b. cond b (x ∷ (those test xs ++ those test ys)) (those test xs ++ those test ys) ≡ cond b (x ∷ those test xs) (those test xs) ++ those test ys)
       (test x) (λ e. refl) (λ e. refl))
+
+  -- one more among them, and one that the test does not hold of, or holds of
+  pub any-more : (xs : List A) (y : A) (ys : List A) → any test (xs ++ ys) ≡ true → any test (xs ++ (y ∷ ys)) ≡ true
+  any-more [] y ys e = or-right (test y) (any test ys) e
+  any-more (x ∷ xs) y ys e = or-follows (test x) (any test (xs ++ ys)) (test x) (any test (xs ++ (y ∷ ys))) (λ h. h) (any-more xs y ys) e
+
+  pub any-without : (xs : List A) (y : A) (ys : List A) → test y ≡ false → any test (xs ++ (y ∷ ys)) ≡ any test (xs ++ ys)
+  any-without xs y ys e = rw (any-append xs (y ∷ ys), any-append xs ys, e) refl
+
+  pub those-without : (xs : List A) (y : A) (ys : List A) → test y ≡ false → those test (xs ++ (y ∷ ys)) ≡ those test (xs ++ ys)
+  those-without xs y ys e = rw (those-append xs (y ∷ ys), those-append xs ys, e) refl
+
+  pub those-with : (xs : List A) (y : A) (ys : List A) → test y ≡ true → those test (xs ++ (y ∷ ys)) ≡ those test xs ++ (y ∷ those test ys)
+  those-with xs y ys e = rw (those-append xs (y ∷ ys), e) refl
+
+  -- there is one where at least one is counted
+  pub any-those : (xs : List A) → any test xs ≡ leb 1 (length (those test xs))
+  any-those [] = refl
+  any-those (x ∷ xs) =
+      by-test (λ b. b || any test xs ≡ leb 1 (length (cond b (x ∷ those test xs) (those test xs)))) (test x)
+      (λ e. sym (le-leb 1 (suc (length (those test xs))) (omega arith))) (λ e. any-those xs)
 
 pub length-those : {A : Type 0} (test : A → Bool) (xs : List A) → length (those test xs) ≤ length xs
 length-those test [] = omega arith

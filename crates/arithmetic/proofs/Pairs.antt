@@ -12,6 +12,11 @@ pub data Pairs {A B : Type 0} (P : A → B → Type 0) : List A → List B → T
   none : Pairs P [] []
   more : {x : A} {y : B} {xs : List A} {ys : List B} → P x y → Pairs P xs ys → Pairs P (x ∷ xs) (y ∷ ys)
 
+-- a list and itself
+pub pairs-same : {A : Type 0} {P : A → A → Type 0} → ((x : A) → P x x) → (xs : List A) → Pairs P xs xs
+pairs-same i [] = none
+pairs-same i (x ∷ xs) = more (i x) (pairs-same i xs)
+
 module _ {A B : Type 0} {P : A → B → Type 0} where
   pub pairs-length : {xs : List A} {ys : List B} → Pairs P xs ys → length xs ≡ length ys
   pairs-length none = refl

@@ -7,4 +7,5 @@ pub mod Sizes
 pub mod SmallEngines
 pub mod RunIn
 pub mod InService
+pub mod Findings
 pub mod DeclaredValue

@@ -81,11 +81,11 @@ sizes-hold = refl
 -- ---- report, append and evidence
 
 -- what an operation answers or leaves in lent memory, and what it should
-record Line (A : Type 0) : Type 0 where
-  found : A
-  expected : A
+pub record Line (A : Type 0) : Type 0 where
+  pub found : A
+  pub expected : A
 
-abbrev _is_ : {A : Type 0} → A → A → Line A
+abbrev pub _is_ : {A : Type 0} → A → A → Line A
 x is y = record { found = x; expected = y }
 
 infix 20 _is_

@@ -1,28 +1,21 @@
 -- The gross emitters by their causes: what comes before a row's statistics.
-use Rattle.arithmetic.proofs.Basics.{ℕ, suc, _+_, _≤_, _<_, arith, _≡_, refl, sym, ap, Bool, true, false, not, _&&_, _||_, cond, List, [], _∷_, _++_, map, leb, ltb}
-use Rattle.arithmetic.proofs.Basics.{eqb, length, getD, take, drop, length-append, take-append-drop, take-suc, le-leb, never, eqb-true, eqb-false}
-use Rattle.arithmetic.proofs.Basics.{and-never, or-same, or-assoc, by-test, not-ltb, leb-same, those-append}
+use Rattle.arithmetic.proofs.Basics.{ℕ, suc, _+_, _≤_, _<_, arith, _≡_, refl, ap, Bool, true, false, not, _&&_, _||_, cond, List, [], _∷_, _++_, map, leb, ltb}
+use Rattle.arithmetic.proofs.Basics.{eqb, length, getD, take, drop, length-append, take-append-drop, take-suc, never, eqb-true, eqb-false}
+use Rattle.arithmetic.proofs.Basics.{and-never, or-same, or-assoc, by-test, not-ltb, leb-same, those-append, any-those}
 use mir.Val.{boolByte}
 use Rattle.rules.specs.Tools.{any, those}
-use Rattle.rules.specs.Sheet.{Record, Pollutant, cause, gross}
+use Rattle.rules.specs.Sheet.{Record, Pollutant, cause, isPending, gross}
 use Rattle.rules.specs.Plans.{Plan, knownDeviation, unknownDeviation, attributes, inService, corrected, Row}
 use Rattle.rules.specs.Series as rules
 use Rattle.accepted.specs.Sheets.{pollutantsIn, enginesIn}
 use Rattle.accepted.proofs.Causes.{hasCause, Caused}
 use Rattle.accepted.proofs.Sheets.{isInService}
 use Rattle.columns.specs.Columns.{turned, closes}
-use Rattle.causes.specs.Causes.{beforeIn, emitsIn, firstRow}
+use Rattle.causes.specs.Causes.{causeIn, beforeIn, firstRow}
 
 -- ---- what is counted
 
 module _ {A : Type 0} (test : A → Bool) where
-  -- there is one where at least one is counted
-  pub any-those : (xs : List A) → any test xs ≡ leb 1 (length (those test xs))
-  any-those [] = refl
-  any-those (x ∷ xs) =
-      by-test (λ b. b || any test xs ≡ leb 1 (length (cond b (x ∷ those test xs) (those test xs)))) (test x)
-      (λ e. sym (le-leb 1 (suc (length (those test xs))) (omega arith))) (λ e. any-those xs)
-
   -- a test and its opposite count all
   pub those-not : (xs : List A) → length (those test xs) + length (those (λ x. not (test x)) xs) ≡ length xs
   those-not [] = refl
@@ -66,16 +59,25 @@ module _ (ps : List Pollutant) where
 
 -- ---- what comes before the statistics of row n
 
-abbrev pick : (early equal referral left : Bool) → rules.Before
-pick a b c d = cond a rules.early (cond b rules.equalCause (cond c rules.referral (cond d rules.leftOpen rules.statistics)))
+abbrev pick : (early equal pending referral left : Bool) → rules.Before
+pick a b p c d =
+    cond a rules.early (cond b rules.equalCause (cond p rules.findingPending (cond c rules.referral (cond d rules.leftOpen rules.statistics))))
 
 -- by the causes of the first n vehicles
+abbrev pub repeatsOf : (first : List Record) → Bool
+repeatsOf first = rules.repeats (rules.known (map cause (those hasCause first)))
+
+abbrev pub pendingOf : (first : List Record) → Bool
+pendingOf first = any isPending (map cause (those hasCause first))
+
+abbrev pub referralBy : (n : ℕ) → (first : List Record) → Bool
+referralBy n first = eqb n 15 && leb 2 (length (those hasCause first))
+
 abbrev pub leftBy : (n : ℕ) → (first : List Record) → Bool
 leftBy n first = eqb n 3 && any hasCause first
 
 abbrev pub beforeBy : (n : ℕ) → (first : List Record) → rules.Before
-beforeBy n first =
-    pick (ltb n 3) (rules.repeats (map cause (those hasCause first))) (eqb n 15 && leb 2 (length (those hasCause first))) (leftBy n first)
+beforeBy n first = pick (ltb n 3) (repeatsOf first) (pendingOf first) (referralBy n first) (leftBy n first)
 
 module _ (ps : List Pollutant) (n : ℕ) (first : List Record) where
   -- in plans 1 to 3 and 5 there is no cause
@@ -90,15 +92,16 @@ module _ (ps : List Pollutant) (n : ℕ) (first : List Record) where
   before-is inService c = rw (those-gross ps first c, any-gross ps first c) refl
   before-is corrected c = plain c
 
--- a row ends the series from row 3 on, by equal cause or referral
-pub closes-pick : (a b c d : Bool) → closes (pick a b c d) ≡ not a && (b || c)
-closes-pick true b c d = refl
-closes-pick false true c d = refl
-closes-pick false false true d = refl
-closes-pick false false false true = refl
-closes-pick false false false false = refl
+-- a row ends or holds the series from row 3 on, by equal cause, a pending finding or referral
+pub closes-pick : (a b p c d : Bool) → closes (pick a b p c d) ≡ not a && (b || (p || c))
+closes-pick true b p c d = refl
+closes-pick false true p c d = refl
+closes-pick false false true c d = refl
+closes-pick false false false true d = refl
+closes-pick false false false false true = refl
+closes-pick false false false false false = refl
 
--- ---- a row that does not end the series is looked at, or it is open
+-- ---- a row that neither ends nor holds the series is looked at, or it is open
 
 -- rows are looked at from 3, or from 4 where one of the first three vehicles is a gross emitter
 looked-from : (es : List Record) (n : ℕ) → not (leftBy n (take n es)) && leb 3 n ≡ leb (cond (any hasCause (take 3 es)) 4 3) n
@@ -117,16 +120,17 @@ module _ (w : ℕ) (b : List ℕ) (n : ℕ) where
       let first : List Record = take n es in
       let is = before-is (pollutantsIn w b) n first plan (caused-cut (isInService plan) (pollutantsIn w b) n es c .0) in
       rw (is, ← (looked-from es n), ← (not-ltb n 3))
-      (cases (ltb n 3) (rules.repeats (map cause (those hasCause first))) (eqb n 15 && leb 2 (length (those hasCause first))) (leftBy n first) (rw is at e))
+      (cases (ltb n 3) (repeatsOf first) (pendingOf first) (referralBy n first) (leftBy n first) (rw is at e))
     where
-      cases : (a b c d : Bool) → closes (pick a b c d) ≡ false
-          → turned (pick a b c d) n r rules.isOpen ≡ cond (not d && not a) (rules.decidedAt n r) rules.isOpen
-      cases true b c true l = refl
-      cases true b c false l = refl
-      cases false true c d l = never l
-      cases false false true d l = never l
-      cases false false false true l = refl
-      cases false false false false l = refl
+      cases : (a b p c d : Bool) → closes (pick a b p c d) ≡ false
+          → turned (pick a b p c d) n r rules.isOpen ≡ cond (not d && not a) (rules.decidedAt n r) rules.isOpen
+      cases true b p c true l = refl
+      cases true b p c false l = refl
+      cases false true p c d l = never l
+      cases false false true c d l = never l
+      cases false false false true d l = never l
+      cases false false false false true l = refl
+      cases false false false false false l = refl
 
 -- ---- the first row that is looked at
 
@@ -138,7 +142,8 @@ first-plain w b c =
     rw (any-those hasCause first, no-cause (pollutantsIn w b) first (caused-cut false (pollutantsIn w b) 3 (enginesIn w b) c .0)) refl
 
 -- in plan 4 the first three vehicles are asked, one by one
-pub first-by : (w : ℕ) (b : List ℕ) → 3 ≤ length (enginesIn w b) → cond ((emitsIn w b 0 || emitsIn w b 1) || emitsIn w b 2) 4 3 ≡ firstRow w b
+pub first-by : (w : ℕ) (b : List ℕ) → 3 ≤ length (enginesIn w b)
+    → cond ((not (eqb (causeIn w b 0) 0) || not (eqb (causeIn w b 1) 0)) || not (eqb (causeIn w b 2) 0)) 4 3 ≡ firstRow w b
 unfolding firstRow
 first-by w b h = ap (λ t. cond t 4 3) (three (enginesIn w b) h)
   where

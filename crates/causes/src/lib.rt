@@ -1,40 +1,55 @@
-// Plan 4, "Before a row's statistics, in order": which rows are looked at and which one ends the series, by the vehicles' causes alone.
+// Plan 4, "Before a row's statistics, in order": which rows are looked at and which one ends or holds the series, by the vehicles' causes
+// alone.
 //
 // On an accepted sheet the gross emitters are the vehicles with a cause, so outside plan 4 there are none.
 ghost use mathlib.Core.Path.{_≡_};
-ghost use mathlib.Core.Bool.{_||_};
+ghost use mathlib.Core.Bool.{not, _&&_, _||_};
 ghost use Prim.Native.Nat.{_+_};
+ghost use lib.Dec.{leb, eqb};
+ghost use Rattle.rules.specs.Sheet.{isPending};
 ghost use Rattle.plan.specs.Plan.{planIs};
 ghost use Rattle.layout.specs.Sizes.{widthIs};
 ghost use Rattle.columns.specs.Columns.{rowsOf};
-ghost use Rattle.causes.specs.Causes.{equalCauses, repeatsIn, emitsIn, gateIs, gateOf, inServiceGate, firstRow};
+ghost use Rattle.causes.specs.Causes.{causeIn, equalCauses, repeatsBy, gateIs, gateOf, inServiceGate, firstRow};
 ghost use Rattle.causes.specs.Ranges.{EnginesRange, InServiceRange, GateRange, FirstRange};
 use layout::Size;
 use plan::Plan;
+use record::PENDING;
 use record::cause_of;
 use record::record_at;
 
 // The last row of plan 4.
 const LAST_ROW: u64 = Plan::IN_SERVICE_LAST_ROW as u64;
 
-// How many rows' statistics may be looked at: all of them, or those before the row that equal cause or referral ends the series at.
+// How many rows' statistics may be looked at: all of them, or those before the row that equal cause or referral ends the series at, or that
+// a pending finding holds it at.
 pub enum Gate {
     Open(u8),
     Cause(u8),
+    Held(u8),
     Referral(u8),
 }
 
 impl Gate {
-    // The rows before the one that ends the series, or all of them.
+    // The rows before the one that ends or holds the series, or all of them.
     pub fn rows(self) -> u8
         ensures { λ n. ⌜ n ≡ rowsOf (gateIs self) ⌝ }
     {
         match self {
             Gate::Open(n) => n,
             Gate::Cause(n) => n,
+            Gate::Held(n) => n,
             Gate::Referral(n) => n,
         }
     }
+}
+
+// The cause of the vehicle behind k engines.
+fn cause_at(size: Size, bytes: &[u8], start: usize, k: usize) -> u32
+    requires { ⌜ EnginesRange (widthIs size) (now bytes) start (k + 1) ⌝ }
+    ensures { λ c. ⌜ c ≡ causeIn (widthIs size) (now (bytes .entry)) k ⌝ }
+{
+    cause_of(record_at(size, bytes, start + k))
 }
 
 // How many of the first n engines have the cause.
@@ -45,44 +60,48 @@ fn equal_causes(size: Size, bytes: &[u8], start: usize, n: usize, cause: u32) ->
     let mut count: usize = 0;
     let mut k: usize = 0;
     while k < n {
-        let r = record_at(size, bytes, start + k);
-        count += (cause_of(r) == cause) as usize;
+        count += (cause_at(size, bytes, start, k) == cause) as usize;
         k += 1;
     }
     count
 }
 
-// Whether the vehicle behind n engines is a gross emitter, and one of them has its cause.
-fn repeats(size: Size, bytes: &[u8], start: usize, n: usize) -> bool
-    requires { ⌜ EnginesRange (widthIs size) (now bytes) start (n + 1) ⌝ }
-    ensures { λ b. ⌜ repeatsIn (widthIs size) (now (bytes .entry)) (n + 1) ≡ repeatsIn (widthIs size) (now (bytes .entry)) n || b ⌝ }
+// Whether the cause is one that is known, and one of the first n engines has it: "two equal known causes".
+fn repeats(size: Size, bytes: &[u8], start: usize, n: usize, cause: u32) -> bool
+    requires { ⌜ EnginesRange (widthIs size) (now bytes) start n ⌝ }
+    ensures { λ b. ⌜ b ≡ repeatsBy (widthIs size) (now (bytes .entry)) n cause ⌝ }
 {
-    let cause = cause_of(record_at(size, bytes, start + n));
-    if cause == 0 {
+    if (cause == 0) | (cause == PENDING) {
         return false;
     }
     1 <= equal_causes(size, bytes, start, n, cause)
 }
 
-// The rows of plan 4. One gross emitter alone neither has an equal cause nor refers a series: with fewer than two the rows are not
-// gone through, and with two or more a series that reaches the last row is referred.
+// The rows of plan 4. Without a gross emitter they are not gone through; with two or more a series that reaches the last row is referred.
 fn in_service_gate(size: Size, bytes: &[u8], start: usize, engines: usize) -> Gate
     requires { ⌜ InServiceRange (widthIs size) (now bytes) start engines ⌝ }
     ensures { λ g. ⌜ gateIs g ≡ inServiceGate (widthIs size) (now (bytes .entry)) engines ⌝ }
 {
-    if engines - equal_causes(size, bytes, start, engines, 0) < 2 {
+    let emitters = engines - equal_causes(size, bytes, start, engines, 0);
+    if emitters == 0 {
         return Gate::Open(engines as u8);
     }
     let mut repeated = false;
+    let mut pending = false;
     let mut n: usize = 0;
     while n < engines {
-        repeated = repeated | repeats(size, bytes, start, n);
+        let cause = cause_at(size, bytes, start, n);
+        repeated = repeated | repeats(size, bytes, start, n, cause);
+        pending = pending | (cause == PENDING);
         let rows = n as u8;
         n += 1;
         if (3 <= n) & repeated {
             return Gate::Cause(rows);
         }
-        if n as u64 == LAST_ROW {
+        if (3 <= n) & pending {
+            return Gate::Held(rows);
+        }
+        if (n as u64 == LAST_ROW) & (2 <= emitters) {
             return Gate::Referral(rows);
         }
     }
@@ -103,14 +122,6 @@ pub fn gate_of(size: Size, bytes: &[u8], start: usize, engines: usize, plan: Pla
     }
 }
 
-// Whether the vehicle behind k engines is a gross emitter.
-fn emits(size: Size, bytes: &[u8], start: usize, k: usize) -> bool
-    requires { ⌜ EnginesRange (widthIs size) (now bytes) start (k + 1) ⌝ }
-    ensures { λ b. ⌜ b ≡ emitsIn (widthIs size) (now (bytes .entry)) k ⌝ }
-{
-    cause_of(record_at(size, bytes, start + k)) != 0
-}
-
 // The first row whose statistics are looked at, of an accepted sheet with three engines or more; 02, F-11: "only row 3 is left open for
 // gross emitters". For `statistics` alone, likewise.
 pub fn first_row(size: Size, bytes: &[u8], start: usize, plan: Plan) -> usize
@@ -118,9 +129,9 @@ pub fn first_row(size: Size, bytes: &[u8], start: usize, plan: Plan) -> usize
     ensures { λ n. ⌜ n ≡ firstRow (widthIs size) (now (bytes .entry)) ⌝ }
 {
     if let Plan::InService = plan {
-        if emits(size, bytes, start, 0)
-            | emits(size, bytes, start, 1)
-            | emits(size, bytes, start, 2)
+        if (cause_at(size, bytes, start, 0) != 0)
+            | (cause_at(size, bytes, start, 1) != 0)
+            | (cause_at(size, bytes, start, 2) != 0)
         {
             return 4;
         }

@@ -5,7 +5,7 @@ use Rattle.arithmetic.proofs.Basics.{and-true}
 use Rattle.rules.specs.Sheet.{Record, Pollutant, numbers, engines, runIns, stopped, declared, planNumber}
 use Rattle.rules.specs.Plans.{Plan, planOf}
 use Rattle.rules.specs.Series.{Decision, isOpen, Standing, Series, hasPassed, decisionOf, pairOf, pairs, answer, judgeRecords}
-use Rattle.columns.specs.Columns.{beforeOf, rowOf, columnOf, Gate, openAfter, causeAfter, referralAfter, rowsOf, gate, upTo, allPassed, columnsAt}
+use Rattle.columns.specs.Columns.{beforeOf, rowOf, columnOf, Gate, openAfter, causeAfter, heldAfter, referralAfter, rowsOf, gate, upTo, allPassed, columnsAt}
 use Rattle.columns.specs.Tally.{Tally, started, tally, endedBy, tallied, judgeByTally}
 use Rattle.columns.proofs.Cut.{Column, is-column, stays}
 use Rattle.columns.proofs.Walk.{closedBy, Outcome, rests, passes, fails, walked}
@@ -46,6 +46,7 @@ module _ (c : Pollutant → ℕ → Decision) (h : (p : Pollutant) → Column (c
     closed-answer true n (openAfter m) ss = refl
     closed-answer false n (openAfter m) ss = refl
     closed-answer stop n (causeAfter m) ss = refl
+    closed-answer stop n (heldAfter m) ss = refl
     closed-answer stop n (referralAfter m) ss = refl
 
     judged : (stop : Bool) (n : ℕ) (s : Series) → Outcome g stand s → answer w stop n s ≡ tallied stop n g final

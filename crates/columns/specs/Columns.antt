@@ -9,7 +9,7 @@ use lib.ListN.{take}
 use Rattle.rules.specs.Tools.{any, all}
 use Rattle.rules.specs.Sheet.{Record, Pollutant, measurement}
 use Rattle.rules.specs.Plans.{Plan, Row, row}
-use Rattle.rules.specs.Series.{Decision, isOpen, passedAt, failedAt, Standing, Before, early, equalCause, referral, leftOpen, statistics, beforeRow, lookedAt, correction, hasFailed, hasPassed}
+use Rattle.rules.specs.Series.{Decision, isOpen, passedAt, failedAt, Standing, Before, early, equalCause, findingPending, referral, leftOpen, statistics, beforeRow, lookedAt, correction, hasFailed, hasPassed}
 
 -- ---- one column: a pollutant's decision as if it were alone, but for what comes before each row
 
@@ -17,6 +17,7 @@ use Rattle.rules.specs.Series.{Decision, isOpen, passedAt, failedAt, Standing, 
 abbrev pub turned : Before → (n : ℕ) → Row → Decision → Decision
 turned early n r d = d
 turned equalCause n r d = d
+turned findingPending n r d = d
 turned referral n r d = d
 turned leftOpen n r d = d
 turned statistics n r d = lookedAt n r d
@@ -39,19 +40,22 @@ columnOf plan ps vs q es p n = column (beforeOf plan ps es) (rowOf plan vs q es 
 
 -- ---- the gate: how many rows' statistics may be looked at
 
--- the rows before the first, of equal cause or referral, that ends the series at the row behind them; or all of them
+-- the rows before the first, of equal cause, a pending finding or referral, that ends or holds the series at the row behind them; or all of
+-- them
 pub data Gate : Type 0 where
-  openAfter causeAfter referralAfter : (rows : ℕ) → Gate
+  openAfter causeAfter heldAfter referralAfter : (rows : ℕ) → Gate
 
 abbrev pub rowsOf : Gate → ℕ
 rowsOf (openAfter n) = n
 rowsOf (causeAfter n) = n
+rowsOf (heldAfter n) = n
 rowsOf (referralAfter n) = n
 
 -- the row behind n rows at which the gate is open
 abbrev pub opened : Before → (n : ℕ) → Gate
 opened early n = openAfter (suc n)
 opened equalCause n = causeAfter n
+opened findingPending n = heldAfter n
 opened referral n = referralAfter n
 opened leftOpen n = openAfter (suc n)
 opened statistics n = openAfter (suc n)
@@ -59,16 +63,18 @@ opened statistics n = openAfter (suc n)
 abbrev pub gateNext : Before → Gate → Gate
 gateNext b (openAfter n) = opened b n
 gateNext b (causeAfter n) = causeAfter n
+gateNext b (heldAfter n) = heldAfter n
 gateNext b (referralAfter n) = referralAfter n
 
 unfoldable pub gate : (before : ℕ → Before) → (n : ℕ) → Gate
 gate before zero = openAfter zero
 gate before (suc n) = gateNext (before (suc n)) (gate before n)
 
--- a row that ends the series before its statistics
+-- a row that ends or holds the series before its statistics
 abbrev pub closes : Before → Bool
 closes early = false
 closes equalCause = true
+closes findingPending = true
 closes referral = true
 closes leftOpen = false
 closes statistics = false

@@ -8,7 +8,7 @@ use lib.ListN.{length}
 use Rattle.rules.specs.Sheet.{Record, Pollutant, numbers, engines, runIns, stopped, declared, planNumber}
 use Rattle.rules.specs.Plans.{planOf}
 use Rattle.rules.specs.Series.{Decision, isOpen, passedAt, failedAt, Pair, pairOf, Answer, judgement}
-use Rattle.columns.specs.Columns.{columnOf, beforeOf, Gate, openAfter, causeAfter, referralAfter, rowsOf, gate, upTo}
+use Rattle.columns.specs.Columns.{columnOf, beforeOf, Gate, openAfter, causeAfter, heldAfter, referralAfter, rowsOf, gate, upTo}
 
 -- what the columns so far say: the rows that count for the next, whether one has failed, whether one is open, the latest pass,
 -- and the decision of each pollutant, 1 first
@@ -56,6 +56,7 @@ abbrev pub endedBy : (stop : Bool) → (tested : ℕ) → Gate → List Pair →
 endedBy true n (openAfter m) ps = judgement 2 n 3 ps
 endedBy false n (openAfter m) ps = judgement 0 n 0 ps
 endedBy stop n (causeAfter m) ps = judgement 2 (suc m) 2 ps
+endedBy stop n (heldAfter m) ps = judgement 4 (suc m) 5 ps
 endedBy stop n (referralAfter m) ps = judgement 3 (suc m) 4 ps
 
 abbrev pub talliedBy : (failed waits : Bool) → (stop : Bool) → (tested : ℕ) → Gate → (rows latest : ℕ) → List Pair → Answer

@@ -1,11 +1,13 @@
 // The entries for programs in C, answering number * 256 + record, 0 on success: append and report for the bench's control program, of
-// 20-byte records and by the record size, the converter between the sizes, and declared for type approval.
+// 20-byte records and by the record size, the converter between the sizes, the finding that is entered for a vehicle, and declared for type
+// approval.
 ghost use mathlib.Core.Path.{_≡_};
 ghost use Rattle.rules.specs.Logarithm.{squarings};
 ghost use Rattle.rules.specs.Sheet.{pollutants};
 ghost use Rattle.rules.specs.Operations as rules;
 ghost use Rattle.rules.specs.Sizes.{appendSized, appendedSized, reportSized, reportedSized};
 ghost use Rattle.rules.specs.Converter.{convert, converted, addedPollutants};
+ghost use Rattle.rules.specs.Findings.{enterSized, enteredSized};
 ghost use Rattle.rules.specs.DeclaredValue as approval;
 ghost use Rattle.outcomes.specs.Outcomes.{outcomeIs};
 use checking::Refusal;
@@ -72,6 +74,20 @@ pub extern "C" fn conformity_convert(size: usize, sheet: &[u8], output: &mut [u8
     ensures { λ _. ⌜ now (output .exit) ≡ converted pollutants addedPollutants size (now (sheet .entry)) (now (output .entry)) ⌝ }
 {
     code(converting::convert(size, sheet, output))
+}
+
+// uint32_t conformity_finding(size_t size, uint8_t *sheet, size_t sheet_length, uint32_t engine, uint32_t finding)
+#[no_mangle]
+pub extern "C" fn conformity_finding(
+    size: usize,
+    sheet: &mut [u8],
+    engine: u32,
+    finding: u32,
+) -> u32
+    ensures { λ n. ⌜ n ≡ rules.code (enterSized size (now (sheet .entry)) engine finding) ⌝ }
+    ensures { λ _. ⌜ now (sheet .exit) ≡ enteredSized size (now (sheet .entry)) engine finding ⌝ }
+{
+    code(entering::enter(size, sheet, engine, finding))
 }
 
 // uint32_t conformity_declared(uint32_t declared, const uint32_t *tests, size_t count, uint32_t *sum, uint32_t *divisor)

@@ -1,6 +1,6 @@
 -- Demand 1, "any bytes of any length are judged, or refused with a number and a record": every list of bytes is refused with a
--- number 1 to 12 or 16 to 19 and a record below the greatest number of records, or judged with a verdict 0 to 3, an engine at most the
--- last row, a ground 0 to 4 and a pair for each pollutant; a judgement only where the check accepts.
+-- number 1 to 12 or 16 to 19 and a record below the greatest number of records, or judged with a verdict 0 to 4, an engine at most the
+-- last row, a ground 0 to 5 and a pair for each pollutant; a judgement only where the check accepts.
 -- Every list of bytes is meant, whatever w and q; the product's are at the end. (That "a refused call writes to no buffer" is in the
 -- contracts of `appending` and `reporting`.)
 use Rattle.arithmetic.proofs.Basics.{ℕ, _≤_, _<_, le-trans, arith, _≡_, refl, sym, ap, _∙_, true, _⊎_, inl, inr, List, [], length}
@@ -26,12 +26,12 @@ module _ (w q : ℕ) where
       × (isRefusal number ≡ true) × (place < most w)
 
   -- "Judging answers verdict (0 another .. 3 referred), engine .., ground (0 none .. 4 referred) and for each pollutant decision .. and
-  -- engine": v, n, ground and the pairs, and only for a sheet that the check accepts
+  -- engine", and of 02, F-5, verdict 4 with ground 5: v, n, ground and the pairs, and only for a sheet that the check accepts
   abbrev pub Judged : List ℕ → Type 0
   Judged b =
       (v : ℕ) × (n : ℕ) × (ground : ℕ) × (pairs : List Pair)
       × (judge w q b ≡ judgement v n ground pairs) × (check w b ≡ accepted)
-      × (v ≤ 3) × (n ≤ lastRow (planOfSheet w b)) × (ground ≤ 4) × (length pairs ≡ w)
+      × (v ≤ 4) × (n ≤ lastRow (planOfSheet w b)) × (ground ≤ 5) × (length pairs ≡ w)
 
   -- "10, more engines than the last row"
   engines-fit : (b : List ℕ) → check w b ≡ accepted → enginesOf w b ≤ lastRow (planOfSheet w b)

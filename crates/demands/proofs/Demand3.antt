@@ -1,24 +1,29 @@
 -- Demand 3, "about what judging answers for the bytes of whole sheets, all pollutants together, and not about single rows".
--- The words are those of document 01 and of 02, F-2, defined in rules/specs/Demands. Every list of bytes is meant, whatever w and q; the
--- product's are at the end.
-use Rattle.arithmetic.proofs.Basics.{ℕ, _≤_, arith, _≡_, _⊎_, ⊎-elim, List}
+-- The words are those of document 01 and of 02, F-2 and F-5, defined in rules/specs/Demands. Every list of bytes is meant, whatever w and q;
+-- the product's are at the end.
+use Rattle.arithmetic.proofs.Basics.{ℕ, _≤_, arith, _≡_, _⊎_, inl, inr, ⊎-elim, List}
 use Rattle.rules.specs.Logarithm.{squarings}
 use Rattle.rules.specs.Sheet.{pollutants, morePollutants, records, planNumber}
 use Rattle.rules.specs.Plans.{lastRow}
 use Rattle.rules.specs.Operations.{judge}
-use Rattle.rules.specs.Demands.{Accepted, Decided, PassesAt, FailsAt, PassesBy, FailsBy, Begins, enginesOf, planOfSheet}
+use Rattle.rules.specs.Demands.{Accepted, Decided, Held, PassesAt, FailsAt, PassesBy, FailsBy, Begins, enginesOf, Pending, planOfSheet}
 use Rattle.rules.specs.Demands.{Alike, NoneHigher, NotRunIn, SameZeroHours}
 use Rattle.demands.proofs.Ended.{sheet-kept, sheet-ends}
+use Rattle.demands.proofs.Held.{held-pending, final-so}
 use Rattle.demands.proofs.Lowering.{sheet-passes, sheet-fails}
 
 module _ (w q : ℕ) where
   -- A sheet once decided keeps its answers in every accepted sheet that begins with it.
   pub decision-kept : (R S : List ℕ) → Begins S R → Decided w q R → Accepted w q S → judge w q S ≡ judge w q R
-  decision-kept = sheet-kept w q
+  decision-kept R S b d = sheet-kept w q R S b (d .0, d .1, d .2, d .4)
 
-  -- Every accepted sheet with as many engines as its plan's last row is decided.
-  pub series-ends : (b : List ℕ) → Accepted w q b → enginesOf w b ≡ lastRow (planOfSheet w b) → Decided w q b
-  series-ends = sheet-ends w q
+  -- So does a held sheet, though it counts as undecided: vehicles behind the row at which it is held are counted for nothing.
+  pub held-kept : (R S : List ℕ) → Begins S R → Held w q R → Accepted w q S → judge w q S ≡ judge w q R
+  held-kept R S b h = sheet-kept w q R S b (4, h .0, (λ z. omega arith), h .1)
+
+  -- Every accepted sheet with as many engines as its plan's last row is decided; 02, F-5: "a full sheet with a pending vehicle may be held".
+  pub series-ends : (b : List ℕ) → Accepted w q b → enginesOf w b ≡ lastRow (planOfSheet w b) → Decided w q b ⊎ (Held w q b × Pending w b)
+  series-ends b a e = ⊎-elim inl (λ h. inr (h, held-pending w q b h)) (final-so w q b (sheet-ends w q b a e))
 
   -- Two accepted sheets in plan 1 or 3, alike in all but the measurements, none higher in the second.
   -- (The bytes of a limit and a deviation, 4 to 11, lie in a record where the format has room for two pollutants.)
@@ -50,7 +55,11 @@ module _ (w : ℕ) (either : (w ≡ pollutants) ⊎ (w ≡ morePollutants)) wher
   pub kept : (R S : List ℕ) → Begins S R → Decided w squarings R → Accepted w squarings S → judge w squarings S ≡ judge w squarings R
   kept = decision-kept w squarings
 
-  pub ends : (b : List ℕ) → Accepted w squarings b → enginesOf w b ≡ lastRow (planOfSheet w b) → Decided w squarings b
+  pub kept-held : (R S : List ℕ) → Begins S R → Held w squarings R → Accepted w squarings S → judge w squarings S ≡ judge w squarings R
+  kept-held = held-kept w squarings
+
+  pub ends : (b : List ℕ) → Accepted w squarings b → enginesOf w b ≡ lastRow (planOfSheet w b)
+      → Decided w squarings b ⊎ (Held w squarings b × Pending w b)
   ends = series-ends w squarings
 
   module _ (R S : List ℕ) (alike : Alike w R S) (lower : NoneHigher w R S)

@@ -1,17 +1,17 @@
--- A series that has ended stays as it is, so an accepted sheet once decided keeps its answers; and with as many engines as its plan's last
--- row it has ended.
+-- A series that has ended, decided or held, stays as it is, so an accepted sheet once decided or held keeps its answers; and with as many
+-- engines as its plan's last row it has ended.
 use Rattle.arithmetic.proofs.Basics.{ℕ, zero, suc, _+_, _-_, _≤_, zero-add, suc-add, add-comm, le-refl, arith, _≡_, refl, sym, ap, _∙_, Bool, true, false, not}
 use Rattle.arithmetic.proofs.Basics.{cond, List, [], _∷_, _++_, map, append-nil, leb, eqb, length, take, drop, length-append, take-append-drop, take-append-le}
 use Rattle.arithmetic.proofs.Basics.{eq-eqb, eqb-true, never, by-test, not-or, any-implies}
 use Rattle.rules.specs.Tools.{any, all, those}
-use Rattle.rules.specs.Sheet.{Record, Pollutant, engineKind, runInKind, records, kind, cause, gross, measurement, engines, runIns, stopped, planNumber, declared}
+use Rattle.rules.specs.Sheet.{Record, Pollutant, engineKind, runInKind, records, kind, cause, isPending, gross, measurement, engines, runIns, stopped, planNumber, declared}
 use Rattle.rules.specs.Plans.{Plan, knownDeviation, unknownDeviation, attributes, inService, corrected, planOf, lastRow, pass, fail, decide, rowPasses, row}
-use Rattle.rules.specs.Series.{Decision, isOpen, passedAt, failedAt, Standing, Series, ongoing, passed, failed, referred}
-use Rattle.rules.specs.Series.{equalCause, referral, statistics, repeats, inServiceBefore, beforeRow, lookedAt, correction, look, hasFailed, hasPassed}
+use Rattle.rules.specs.Series.{Decision, isOpen, passedAt, failedAt, Standing, Series, ongoing, passed, failed, referred, held}
+use Rattle.rules.specs.Series.{equalCause, findingPending, referral, statistics, repeats, known, inServiceBefore, beforeRow, lookedAt, correction, look, hasFailed, hasPassed}
 use Rattle.rules.specs.Series.{settleBy, settle, rowBy, walk, after, pairs, Answer, answer, judgeRecords}
 use Rattle.rules.specs.Refusals.{accepted, check}
 use Rattle.rules.specs.Operations.{judge}
-use Rattle.rules.specs.Demands.{Says, Accepted, Decided, Begins, enginesOf, planOfSheet}
+use Rattle.rules.specs.Demands.{Says, Accepted, Begins, enginesOf, planOfSheet}
 use Rattle.accepted.proofs.Records.{records-append}
 use Rattle.accepted.proofs.Faultless.{Sound, sound, Clean, clean-append, isOther, isMeasured, ofKind-append, ofKind-none, no-pollutants, no-run-ins, nothing-after}
 use Rattle.accepted.proofs.Causes.{declared-append}
@@ -31,36 +31,41 @@ module _ (w q : ℕ) (b : List ℕ) (a : Accepted w q b) where
 
 -- ---- a series that goes on no more: rows change nothing, nor do a stop and the number of engines, and the verdict is not another
 
-abbrev Decides : Answer → Type 0
-Decides a = (v : ℕ) × (n : ℕ) × (v ≡ 0 → ⊥) × Says a v n
+abbrev pub Final : Answer → Type 0
+Final a = (v : ℕ) × (n : ℕ) × (v ≡ 0 → ⊥) × Says a v n
 
 pub data Ended : Series → Type 0 where
   passed-ended : (m : ℕ) (ss : List Standing) → Ended (passed m ss)
   failed-ended : (m ground : ℕ) (ss : List Standing) → Ended (failed m ground ss)
   referred-ended : (m : ℕ) (ss : List Standing) → Ended (referred m ss)
+  held-ended : (m : ℕ) (ss : List Standing) → Ended (held m ss)
 
 ended-stays : {s : Series} (plan : Plan) (ps : List Pollutant) (vs : List Record) (q n : ℕ) (first : List Record) → Ended s
     → walk plan ps vs q n first s ≡ s
 ended-stays plan ps vs q n first (passed-ended m ss) = refl
 ended-stays plan ps vs q n first (failed-ended m ground ss) = refl
 ended-stays plan ps vs q n first (referred-ended m ss) = refl
+ended-stays plan ps vs q n first (held-ended m ss) = refl
 
 ended-answers : {s : Series} (w : ℕ) (stop stop′ : Bool) (n n′ : ℕ) → Ended s → answer w stop n s ≡ answer w stop′ n′ s
 ended-answers w stop stop′ n n′ (passed-ended m ss) = refl
 ended-answers w stop stop′ n n′ (failed-ended m ground ss) = refl
 ended-answers w stop stop′ n n′ (referred-ended m ss) = refl
+ended-answers w stop stop′ n n′ (held-ended m ss) = refl
 
-ended-decides : {s : Series} (w : ℕ) (stop : Bool) (n : ℕ) → Ended s → Decides (answer w stop n s)
-ended-decides w stop n (passed-ended m ss) = (1, m, λ z. omega arith, (1, pairs w ss, refl))
-ended-decides w stop n (failed-ended m ground ss) = (2, m, λ z. omega arith, (ground, pairs w ss, refl))
-ended-decides w stop n (referred-ended m ss) = (3, m, λ z. omega arith, (4, pairs w ss, refl))
+ended-final : {s : Series} (w : ℕ) (stop : Bool) (n : ℕ) → Ended s → Final (answer w stop n s)
+ended-final w stop n (passed-ended m ss) = (1, m, λ z. omega arith, (1, pairs w ss, refl))
+ended-final w stop n (failed-ended m ground ss) = (2, m, λ z. omega arith, (ground, pairs w ss, refl))
+ended-final w stop n (referred-ended m ss) = (3, m, λ z. omega arith, (4, pairs w ss, refl))
+ended-final w stop n (held-ended m ss) = (4, m, λ z. omega arith, (5, pairs w ss, refl))
 
--- where testing was not stopped, a decided series has ended
-decided-ended : (w n : ℕ) (s : Series) → Decides (answer w false n s) → Ended s
-decided-ended w n (ongoing ss) d = let e = d .3 .2 in let z : d .0 ≡ 0 = cc in absurd (d .2 z)
-decided-ended w n (passed m ss) d = passed-ended m ss
-decided-ended w n (failed m ground ss) d = failed-ended m ground ss
-decided-ended w n (referred m ss) d = referred-ended m ss
+-- where testing was not stopped, a series whose verdict is not another has ended
+final-ended : (w n : ℕ) (s : Series) → Final (answer w false n s) → Ended s
+final-ended w n (ongoing ss) d = let e = d .3 .2 in let z : d .0 ≡ 0 = cc in absurd (d .2 z)
+final-ended w n (passed m ss) d = passed-ended m ss
+final-ended w n (failed m ground ss) d = failed-ended m ground ss
+final-ended w n (referred m ss) d = referred-ended m ss
+final-ended w n (held m ss) d = held-ended m ss
 
 module _ (plan : Plan) (ps : List Pollutant) (vs : List Record) (q : ℕ) where
   pub after-ended : (es : List Record) (k n : ℕ) → Ended (after plan ps vs q es n) → after plan ps vs q es (k + n) ≡ after plan ps vs q es n
@@ -90,7 +95,7 @@ unfolding after
 has-engine q rs e =
     by-test (λ t. t ≡ true) (any isEngine rs) (λ o. refl)
     (λ o.
-    let d = ended-decides 0 false 0 (rw (ofKind-none engineKind rs o) at e) in
+    let d = ended-final 0 false 0 (rw (ofKind-none engineKind rs o) at e) in
     let s = d .3 .2 in
     let z : d .0 ≡ 0 = cc in
     absurd (d .2 z))
@@ -114,16 +119,16 @@ module _ (w q : ℕ) (rs ts : List Record) (c : Clean w rs ts) where
       rw (plan-append rs ts o, ps, vs, ofKind-append engineKind rs ts)
       (after-longer (planOf (planNumber rs)) (declared rs) (runIns rs) q (engines rs) (engines ts) e)
 
-  records-kept : Decides (judgeRecords w q rs) → judgeRecords w q (rs ++ ts) ≡ judgeRecords w q rs
+  records-kept : Final (judgeRecords w q rs) → judgeRecords w q (rs ++ ts) ≡ judgeRecords w q rs
   unfolding judgeRecords
   records-kept d =
       by-test (λ t. judgeRecords w q (rs ++ ts) ≡ judgeRecords w q rs) (stopped rs)
       (λ s. rw (nothing-after w rs ts s c, append-nil) refl)
       (λ s.
-      let e = decided-ended w (length (engines rs)) (seriesOf q rs) (rw s at d) in
+      let e = final-ended w (length (engines rs)) (seriesOf q rs) (rw s at d) in
       rw (series-kept e) (ended-answers w (stopped (rs ++ ts)) (stopped rs) (length (engines (rs ++ ts))) (length (engines rs)) e))
 
-pub sheet-kept : (w q : ℕ) (R S : List ℕ) → Begins S R → Decided w q R → Accepted w q S → judge w q S ≡ judge w q R
+pub sheet-kept : (w q : ℕ) (R S : List ℕ) → Begins S R → Final (judge w q R) → Accepted w q S → judge w q S ≡ judge w q R
 sheet-kept w q R S b d a =
     let a′ : Accepted w q R = (d .0, d .1, d .3) in
     let ts : List Record = records w (drop (length R) S) in
@@ -175,12 +180,15 @@ unfolding beforeRow inServiceBefore
 row-ended knownDeviation ps vs q first ss = settled knownDeviation vs q first ss
 row-ended unknownDeviation ps vs q first ss = settled unknownDeviation vs q first ss
 row-ended attributes ps vs q first ss = settled attributes vs q first ss
-row-ended inService ps vs q first ss = cases (repeats (map cause (those (gross ps) first))) (leb 2 (length (those (gross ps) first)))
+row-ended inService ps vs q first ss =
+    let emitters : List Record = those (gross ps) first in
+    cases (repeats (known (map cause emitters))) (any isPending (map cause emitters)) (leb 2 (length emitters))
   where
-    cases : (a b : Bool) → Ended (rowBy (cond a equalCause (cond b referral statistics)) inService vs q (lastRow inService) first ss)
-    cases true b = failed-ended (lastRow inService) 2 ss
-    cases false true = referred-ended (lastRow inService) ss
-    cases false false = settled inService vs q first ss
+    cases : (a b c : Bool) → Ended (rowBy (cond a equalCause (cond b findingPending (cond c referral statistics))) inService vs q (lastRow inService) first ss)
+    cases true b c = failed-ended (lastRow inService) 2 ss
+    cases false true c = held-ended (lastRow inService) ss
+    cases false false true = referred-ended (lastRow inService) ss
+    cases false false false = settled inService vs q first ss
 row-ended corrected ps vs q first ss = settled corrected vs q first ss
 
 walk-last : (plan : Plan) (ps : List Pollutant) (vs : List Record) (q : ℕ) (first : List Record) (s : Series)
@@ -189,6 +197,7 @@ walk-last plan ps vs q first (ongoing ss) = row-ended plan ps vs q first ss
 walk-last plan ps vs q first (passed m ss) = passed-ended m ss
 walk-last plan ps vs q first (failed m ground ss) = failed-ended m ground ss
 walk-last plan ps vs q first (referred m ss) = referred-ended m ss
+walk-last plan ps vs q first (held m ss) = held-ended m ss
 
 after-last : (plan : Plan) (ps : List Pollutant) (vs : List Record) (q : ℕ) (es : List Record) → Ended (after plan ps vs q es (lastRow plan))
 unfolding after
@@ -198,9 +207,9 @@ after-last attributes ps vs q es = walk-last attributes ps vs q _ (after attribu
 after-last inService ps vs q es = walk-last inService ps vs q _ (after inService ps vs q es (lastRow inService - 1))
 after-last corrected ps vs q es = walk-last corrected ps vs q _ (after corrected ps vs q es (lastRow corrected - 1))
 
-pub sheet-ends : (w q : ℕ) (b : List ℕ) → Accepted w q b → enginesOf w b ≡ lastRow (planOfSheet w b) → Decided w q b
+pub sheet-ends : (w q : ℕ) (b : List ℕ) → Accepted w q b → enginesOf w b ≡ lastRow (planOfSheet w b) → Final (judge w q b)
 unfolding judgeRecords
 sheet-ends w q b a h =
     let rs : List Record = records w b in
     let e : Ended (seriesOf q rs) = rw h (after-last _ _ _ q (engines rs)) in
-    rw (judged w q b a) (ended-decides w (stopped rs) (length (engines rs)) e)
+    rw (judged w q b a) (ended-final w (stopped rs) (length (engines rs)) e)

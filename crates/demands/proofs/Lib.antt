@@ -1,4 +1,5 @@
 pub mod Ended
+pub mod Held
 pub mod Rows
 pub mod Lower
 pub mod Lowering

@@ -5,7 +5,7 @@ use Rattle.arithmetic.proofs.Basics.{eq-eqb, never, or-right, by-test}
 use Rattle.rules.specs.Sheet.{Record, Pollutant, measurement, declares}
 use Rattle.rules.specs.Plans.{Plan, Row}
 use Rattle.rules.specs.Series.{Decision, isOpen, passedAt, failedAt, Standing, Series, ongoing, passed, failed}
-use Rattle.rules.specs.Series.{referred, early, statistics, beforeRow, lookedAt, correction, look, hasFailed, hasPassed, settleBy}
+use Rattle.rules.specs.Series.{referred, held, early, statistics, beforeRow, lookedAt, correction, look, hasFailed, hasPassed, settleBy}
 use Rattle.rules.specs.Series.{settle, rowBy, walk, unlooked, after, Pair, pairs, judgement, answer}
 use Rattle.rules.specs.Demands.{Says, SaysBy}
 use Rattle.arithmetic.proofs.Pairs.{Pairs, none, more, pairs-take, pairs-map, any-follows, all-follows}
@@ -167,6 +167,7 @@ module _ {plan : Plan} {vs us es fs : List Record} (w q : ℕ) (falling : Fallin
       by false (ongoing ts) e a = absurd (verdicts a (λ z. omega arith))
       by stop (failed o ground ts) e a = absurd (verdicts a (λ z. omega arith))
       by stop (referred o ts) e a = absurd (verdicts a (λ z. omega arith))
+      by stop (held o ts) e a = absurd (verdicts a (λ z. omega arith))
       by stop (passed o ts) e a =
           let made = rw e at (after-made plan vs q ps es n) in
           let p = passed-second (rw (made .3) at (after-lower (made .0))) in
@@ -187,6 +188,7 @@ module _ {plan : Plan} {vs us es fs : List Record} (w q : ℕ) (falling : Fallin
       by false (ongoing ts) e a = absurd (verdicts a (λ z. omega arith))
       by stop (passed o ts) e a = absurd (verdicts a (λ z. omega arith))
       by stop (referred o ts) e a = absurd (verdicts a (λ z. omega arith))
+      by stop (held o ts) e a = absurd (verdicts a (λ z. omega arith))
       by stop (failed o ground ts) e a =
           let made = rw e at (after-made plan us q ps fs n) in
           let f = failed-first (rw (made .3) at (after-lower (made .0))) in

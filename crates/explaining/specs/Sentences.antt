@@ -21,7 +21,7 @@ sentences =
     ∷ 6 means "the limit is not 1 to 9999999"
     ∷ 7 means "the deviation is not 1 to 4000000 in plan 1, or not 0 in another plan"
     ∷ 8 means "a measurement is not 1 to 9999999, or one of an undeclared pollutant is not 0"
-    ∷ 9 means "the cause is not 1 to 65534 for a gross emitter in plan 4, or not 0 for any other engine"
+    ∷ 9 means "the cause is 0 for a gross emitter in plan 4, or not 0 for any other engine"
     ∷ 10 means "there are more engines than the plan's last row"
     ∷ 11 means "plan 4 knows no stop by the manufacturer"
     ∷ 12 means "a byte that must be zero is not"

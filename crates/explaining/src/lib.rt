@@ -104,7 +104,7 @@ fn with_sentence(lines: Lines, number: u8) -> Lines
         the limit is not 1 to 9999999\n\
         the deviation is not 1 to 4000000 in plan 1, or not 0 in another plan\n\
         a measurement is not 1 to 9999999, or one of an undeclared pollutant is not 0\n\
-        the cause is not 1 to 65534 for a gross emitter in plan 4, or not 0 for any other engine\n\
+        the cause is 0 for a gross emitter in plan 4, or not 0 for any other engine\n\
         there are more engines than the plan's last row\n\
         plan 4 knows no stop by the manufacturer\n\
         a byte that must be zero is not\n\

@@ -3,7 +3,7 @@ use Prim.Native.Nat.{ℕ, _+_, _/_}
 use mathlib.Core.Bool.{Bool, false, not, _&&_, _||_, cond}
 use lib.Dec.{ltb, eqb}
 use Rattle.rules.specs.Tools.{within}
-use Rattle.rules.specs.Sheet.{Record, cause, measurement}
+use Rattle.rules.specs.Sheet.{Record, cause, isPending, measurement}
 use Rattle.rules.specs.Refusals.{greatestCause}
 use Rattle.rules.specs.Plans.{inService, numberOf}
 use Rattle.layout.specs.declared.Size.{Size}
@@ -28,4 +28,6 @@ grossBy z limits r =
     || exceedsBehind z limits r
 
 unfoldable pub badCauseBy : Size → Summary → Record → Bool
-badCauseBy z s r = cond (eqb (s .plan) (numberOf inService) && grossBy z (s .limits) r) (not (within 1 greatestCause (cause r))) (not (eqb (cause r) 0))
+badCauseBy z s r =
+    cond (eqb (s .plan) (numberOf inService) && grossBy z (s .limits) r) (not (within 1 greatestCause (cause r) || isPending (cause r)))
+    (not (eqb (cause r) 0))

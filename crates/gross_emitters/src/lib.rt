@@ -10,9 +10,6 @@ use record::cause_of;
 use record::measurement_of;
 use summary::Summary;
 
-// The greatest cause.
-const GREATEST_CAUSE: u32 = 65_534;
-
 // "2x > 3L", of a declared pollutant p: x is above L and half of L, rounded down, which stays within 32 bits.
 fn exceeds(limit: u32, r: &[u8], p: u32) -> bool
     requires { ⌜ LimitRange limit ⌝ }
@@ -44,7 +41,8 @@ fn is_gross(size: Size, limits: Quantities, r: &[u8]) -> bool
         | exceeds_behind(size, limits, r)
 }
 
-// "9, cause": "In plan 4 its cause is 1 to 65,534, any other vehicle's is 0; in plans 1 to 3 cause is 0.", and in plan 5.
+// "9, cause": "In plan 4 its cause is 1 to 65,534, any other vehicle's is 0; in plans 1 to 3 cause is 0.", and in plan 5; 02, F-5: 65,535
+// "marks a gross emitter whose finding is pending, and refusal 9 admits it there." So of a gross emitter any number of two bytes but 0.
 // For `faults` alone, which keeps limits in range: so it may require.
 pub fn bad_cause(size: Size, s: Summary, r: &[u8]) -> bool
     requires { ⌜ Limits (s .limits) ⌝ }
@@ -56,7 +54,7 @@ pub fn bad_cause(size: Size, s: Summary, r: &[u8]) -> bool
         return cause != 0;
     }
     if is_gross(size, limits, r) {
-        !((1 <= cause) & (cause <= GREATEST_CAUSE))
+        cause == 0
     } else {
         cause != 0
     }

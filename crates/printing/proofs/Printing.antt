@@ -15,12 +15,13 @@ use Rattle.tally.specs.declared.Judgement.{Judgement}
 use Rattle.tally.specs.Judgements.{judgementIs, sixPairs, DeclaresAs}
 use Rattle.printing.specs.Judgements.{judgementLines}
 
--- "3 referred"
-pub referred-word : (v : ℕ) → 2 < v → verdictWord v ≡ verdictWord 3
-referred-word zero h = absurd (omega arith)
-referred-word (suc zero) h = absurd (omega arith)
-referred-word (suc (suc zero)) h = absurd (omega arith)
-referred-word (suc (suc (suc v))) h = refl
+-- "the verdict is 4, printed `held`"
+pub held-word : (v : ℕ) → 3 < v → verdictWord v ≡ verdictWord 4
+held-word zero h = absurd (omega arith)
+held-word (suc zero) h = absurd (omega arith)
+held-word (suc (suc zero)) h = absurd (omega arith)
+held-word (suc (suc (suc zero))) h = absurd (omega arith)
+held-word (suc (suc (suc (suc v)))) h = refl
 
 -- with more room
 pub within : (q : ℕ) {l m : Lines} {a : List ℕ} {p : ℕ} → Adds l m a p → p ≤ q → Adds l m a q

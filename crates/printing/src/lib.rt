@@ -29,7 +29,7 @@ fn line_of(word: &[u8], a: u8, b: u8) -> Lines
         .with_byte(b'\n')
 }
 
-// "Line 1: verdict word (another, pass, fail, referred), engine, ground"
+// "Line 1: verdict word (another, pass, fail, referred), engine, ground"; 02, F-5: "printed `held`"
 fn first_line(numbers: Numbers) -> Lines
     ensures { λ l. ⌜ Adds nothing l (firstLine numbers) 17 ⌝ }
 {
@@ -42,7 +42,8 @@ fn first_line(numbers: Numbers) -> Lines
         0 => line_of(b"another", engine, ground),
         1 => line_of(b"pass", engine, ground),
         2 => line_of(b"fail", engine, ground),
-        _ => line_of(b"referred", engine, ground),
+        3 => line_of(b"referred", engine, ground),
+        _ => line_of(b"held", engine, ground),
     }
 }
 

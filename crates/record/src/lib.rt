@@ -28,6 +28,9 @@ pub const SMALL_ENGINE: u32 = 5;
 
 pub const RUN_IN: u32 = 6;
 
+// 02, F-5: "Cause 65,535 now marks a gross emitter whose finding is pending"
+pub const PENDING: u32 = 65_535;
+
 // A number for each pollutant, "carbon monoxide, hydrocarbons, nitrogen oxides, particulates", and for the two more that 02, F-10, does not name.
 pub struct Quantities {
     pub co: u32,
@@ -60,7 +63,7 @@ impl Quantities {
     }
 }
 
-// Record k of a sheet of records of that size. For `checking`, `reading`, `causes`, `tally` and `converting`, which ask for records below the sheet's end: so it may require.
+// Record k of a sheet of records of that size. For `checking`, `reading`, `causes`, `corrections`, `tally`, `converting` and `entering`, which ask for records below the sheet's end: so it may require.
 pub fn record_at(size: Size, sheet: &[u8], k: usize) -> &[u8]
     requires { ⌜ RecordRange (widthIs size) k (length (now sheet)) ⌝ }
     ensures { λ r. ⌜ now r ≡ recordAt (widthIs size) (now (sheet .entry)) k ⌝ }

@@ -1,12 +1,12 @@
--- Document 01, "The series", its last part but one, and document 02, F-2: the words of demand 3, about the bytes of whole sheets.
+-- Document 01, "The series", its last part but one, and document 02, F-2 and F-5: the words of demand 3, about the bytes of whole sheets.
 use Prim.Native.Nat.{ℕ, _+_, _*_, _≤_, _<_}
 use mathlib.Core.Path.{_≡_}
 use mathlib.Core.Bool.{Bool, true, false, _&&_}
 use mathlib.Core.List.{List, []}
 use lib.Dec.{leb}
 use lib.ListN.{length, getD, take}
-use Rattle.rules.specs.Tools.{byte, four}
-use Rattle.rules.specs.Sheet.{Record, size, measures, records, measurement, engines, runIns, planNumber}
+use Rattle.rules.specs.Tools.{any, byte, four}
+use Rattle.rules.specs.Sheet.{Record, size, measures, records, cause, isPending, measurement, engines, runIns, planNumber}
 use Rattle.rules.specs.Plans.{Plan, planOf}
 use Rattle.rules.specs.Series.{Pair, Answer, judgement}
 use Rattle.rules.specs.Operations.{judge}
@@ -24,9 +24,13 @@ module _ (w q : ℕ) where
   abbrev pub Accepted : List ℕ → Type 0
   Accepted b = (v : ℕ) × (n : ℕ) × Says (judge w q b) v n
 
-  -- "and decided if its verdict is then not another"
+  -- "and decided if its verdict is then not another"; 02, F-5: "A held sheet counts as undecided"
   abbrev pub Decided : List ℕ → Type 0
-  Decided b = (v : ℕ) × (n : ℕ) × (v ≡ 0 → ⊥) × Says (judge w q b) v n
+  Decided b = (v : ℕ) × (n : ℕ) × (v ≡ 0 → ⊥) × (v ≡ 4 → ⊥) × Says (judge w q b) v n
+
+  -- 02, F-5: "the verdict is 4, printed `held`"
+  abbrev pub Held : List ℕ → Type 0
+  Held b = (n : ℕ) × Says (judge w q b) 4 n
 
   -- "It passes at n if its verdict is pass and its engine is n, and at n or sooner if that engine is at most n; fails likewise."
   abbrev pub PassesAt : List ℕ → (n : ℕ) → Type 0
@@ -49,6 +53,10 @@ module _ (w : ℕ) where
   -- how many engines a sheet has, and its plan
   abbrev pub enginesOf : List ℕ → ℕ
   enginesOf b = length (engines (records w b))
+
+  -- 02, F-5: the sheet has "a pending vehicle"
+  abbrev pub Pending : List ℕ → Type 0
+  Pending b = any (λ r. isPending (cause r)) (engines (records w b)) ≡ true
 
   abbrev pub planOfSheet : List ℕ → Plan
   planOfSheet b = planOf (planNumber (records w b))

@@ -24,7 +24,8 @@ judge w q b = judgeBy w q (check w b) (records w b)
 abbrev pub through : (w n : ℕ) → List ℕ → List ℕ
 through w n b = take (size w * (length (heading (records w b)) + n)) b
 
--- "through the deciding engine's record; the whole sheet where undecided, stopped or referred": the ground tells which
+-- "through the deciding engine's record; the whole sheet where undecided, stopped or referred", and so where held, which "counts as
+-- undecided" (02, F-5): the ground tells which
 abbrev pub evidenceBy : (w : ℕ) → Answer → List ℕ → List ℕ
 evidenceBy w (refusal number place) b = []
 evidenceBy w (judgement verdict n ground pairs) b = cond (eqb ground 1 || eqb ground 2) (through w n b) b

@@ -26,12 +26,13 @@ line (word ∷ next ∷ words) = word ++ (32 ∷ line (next ∷ words))
 
 -- ---- words
 
--- "verdict word (another, pass, fail, referred)", of 0, 1, 2 and 3
+-- "verdict word (another, pass, fail, referred)", of 0, 1, 2 and 3; 02, F-5: "the verdict is 4, printed `held`"
 abbrev pub verdictWord : (verdict : ℕ) → List ℕ
 verdictWord zero = 97 ∷ 110 ∷ 111 ∷ 116 ∷ 104 ∷ 101 ∷ 114 ∷ []
 verdictWord (suc zero) = 112 ∷ 97 ∷ 115 ∷ 115 ∷ []
 verdictWord (suc (suc zero)) = 102 ∷ 97 ∷ 105 ∷ 108 ∷ []
-verdictWord (suc (suc (suc v))) = 114 ∷ 101 ∷ 102 ∷ 101 ∷ 114 ∷ 114 ∷ 101 ∷ 100 ∷ []
+verdictWord (suc (suc (suc zero))) = 114 ∷ 101 ∷ 102 ∷ 101 ∷ 114 ∷ 114 ∷ 101 ∷ 100 ∷ []
+verdictWord (suc (suc (suc (suc v)))) = 104 ∷ 101 ∷ 108 ∷ 100 ∷ []
 
 -- "open/pass/fail", of 0, 1 and 2
 abbrev pub decisionWord : (decision : ℕ) → List ℕ

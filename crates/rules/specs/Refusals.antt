@@ -6,7 +6,7 @@ use lib.Dec.{leb, ltb, eqb}
 use lib.ListN.{length, take, drop}
 use Rattle.rules.specs.Tools.{any, within}
 use Rattle.rules.specs.Logarithm.{greatest}
-use Rattle.rules.specs.Sheet.{Record, Pollutant, size, most, records, numbers, pollutantKind, engineKind, stopKind, smallEngineKind, runInKind, measures, kind, number, plan, limit, deviation, cause, measurement, volume, speed, date, engines, stopped, planNumber, declared, declares, gross}
+use Rattle.rules.specs.Sheet.{Record, Pollutant, size, most, records, numbers, pollutantKind, engineKind, stopKind, smallEngineKind, runInKind, measures, kind, number, plan, limit, deviation, cause, isPending, measurement, volume, speed, date, engines, stopped, planNumber, declared, declares, gross}
 use Rattle.rules.specs.Calendar.{isDay}
 use Rattle.rules.specs.Plans.{knownDeviation, inService, planCount, numberOf, planOf, lastRow}
 
@@ -97,9 +97,11 @@ abbrev pub greatestCause : ℕ
 greatestCause = 65534
 
 -- "9, cause": "In plan 4 [a gross emitter's] cause is 1 to 65,534, any other vehicle's is 0; in plans 1 to 3 cause is 0."; and in plan 5
--- it is 0, which is "otherwise as plan 2"
+-- it is 0, which is "otherwise as plan 2"; 02, F-5: "Cause 65,535 now marks a gross emitter whose finding is pending, and refusal 9 admits
+-- it there."
 unfoldable pub badCause : (planNumber : ℕ) → List Pollutant → Record → Bool
-badCause n ps r = cond (eqb n (numberOf inService) && gross ps r) (not (within 1 greatestCause (cause r))) (not (eqb (cause r) 0))
+badCause n ps r =
+    cond (eqb n (numberOf inService) && gross ps r) (not (within 1 greatestCause (cause r) || isPending (cause r))) (not (eqb (cause r) 0))
 
 -- "10, more engines than the last row"
 unfoldable pub tooMany : (before : List Record) → Bool

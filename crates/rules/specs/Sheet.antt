@@ -87,6 +87,13 @@ deviation r = four r 8
 unfoldable pub cause : Record → ℕ
 cause r = two r 2
 
+-- 02, F-5: "Cause 65,535 now marks a gross emitter whose finding is pending"
+abbrev pub pending : ℕ
+pending = 65535
+
+abbrev pub isPending : (cause : ℕ) → Bool
+isPending c = eqb c pending
+
 unfoldable pub measurement : Record → (pollutant : ℕ) → ℕ
 measurement r p = four r (4 * p)
 

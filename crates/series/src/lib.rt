@@ -75,7 +75,7 @@ pub fn evidence<'a>(size: usize, bytes: &'a [u8], code: &mut u32) -> &'a [u8]
     let judgement = judgement_of(size, bytes, sheet);
     let verdict = judgement.verdict;
     let Numbers { engine, ground, .. } = verdict.numbers();
-    // "through the deciding engine's record; the whole sheet where undecided, stopped or referred": the ground tells which
+    // "through the deciding engine's record; the whole sheet where undecided, stopped or referred", and where held: the ground tells which
     if (ground == 1) | (ground == 2) {
         let end = size.bytes() * (sheet.head as usize + engine as usize);
         return &bytes[..end];

@@ -7,24 +7,20 @@ use Rattle.rules.specs.Tools.{any, all}
 use Rattle.rules.specs.Sheet.{Record, Pollutant, records, numbers, pollutantKind, kind, number, ofKind, engines, runIns, planNumber, pollutant, declared}
 use Rattle.rules.specs.Sheet.{declares, stopped}
 use Rattle.rules.specs.Plans.{Plan, planOf}
-use Rattle.rules.specs.Series.{Standing, Series, ongoing, passed, failed, referred, Before, early, equalCause, referral, leftOpen, statistics, beforeRow, look}
+use Rattle.rules.specs.Series.{Standing, Series, ongoing, passed, failed, referred, held, Before, early, equalCause, findingPending, referral, leftOpen, statistics, beforeRow, look}
 use Rattle.rules.specs.Series.{settle, settleBy, hasFailed, hasPassed, unlooked, rowBy, walk, after, Pair, pair, isOpen, pairOf, decisionOf, pairs, judgement, answer, judgeRecords}
 use Rattle.rules.specs.Refusals.{accepted, check}
 use Rattle.rules.specs.Operations.{pairBytes, reportBytes}
 use Rattle.rules.specs.Sizes.{openPairs}
 use Rattle.rules.specs.Converter.{widenedRecord, above}
-use Rattle.accepted.proofs.Faultless.{Clean, sound, ofKind-append}
-use Rattle.accepted.proofs.ByNumber.{InOrder, in-order}
+use Rattle.accepted.proofs.Faultless.{Clean, sound}
+use Rattle.accepted.proofs.ByNumber.{InOrder, declared-join, in-order}
 use Rattle.answers.proofs.Answers.{seriesOf}
 
 -- ---- pollutants none of which is above w
 
 pub above-append : (w : ℕ) (rs ts : List Record) → above w (declared (rs ++ ts)) ≡ above w (declared rs) || above w (declared ts)
-unfolding declared
-above-append w rs ts =
-    ap (λ (l : List Record). above w (map pollutant l)) (ofKind-append pollutantKind rs ts)
-    ∙ ap (above w) (map-append pollutant (ofKind pollutantKind rs) (ofKind pollutantKind ts))
-    ∙ any-append (λ c. ltb w (c .number)) (declared rs) (declared ts)
+above-append w rs ts = ap (above w) (declared-join rs ts) ∙ any-append (λ c. ltb w (c .number)) (declared rs) (declared ts)
 
 pub above-one : (w : ℕ) (r : Record) → above w (declared (r ∷ [])) ≡ eqb (kind r) pollutantKind && ltb w (number r)
 unfolding declared ofKind pollutant
@@ -66,6 +62,7 @@ standingsOf (ongoing ss) = ss
 standingsOf (passed n ss) = ss
 standingsOf (failed n ground ss) = ss
 standingsOf (referred n ss) = ss
+standingsOf (held n ss) = ss
 
 abbrev pollutantsOf : List Standing → List Pollutant
 pollutantsOf ss = map (λ s. s .pollutant) ss
@@ -87,6 +84,7 @@ module _ (plan : Plan) (vs : List Record) (q : ℕ) where
   row-pollutants : (b : Before) (n : ℕ) (first : List Record) (ss : List Standing) → pollutantsOf (standingsOf (rowBy b plan vs q n first ss)) ≡ pollutantsOf ss
   row-pollutants early n first ss = refl
   row-pollutants equalCause n first ss = refl
+  row-pollutants findingPending n first ss = refl
   row-pollutants referral n first ss = refl
   row-pollutants leftOpen n first ss = refl
   row-pollutants statistics n first ss = ap pollutantsOf (settle-standings n (map (look plan vs q n first) ss)) ∙ look-pollutants n first ss
@@ -97,6 +95,7 @@ module _ (plan : Plan) (vs : List Record) (q : ℕ) where
     walk-pollutants n first (passed m ss) = refl
     walk-pollutants n first (failed m ground ss) = refl
     walk-pollutants n first (referred m ss) = refl
+    walk-pollutants n first (held m ss) = refl
 
     unlooked-pollutants : (cs : List Pollutant) → pollutantsOf (map unlooked cs) ≡ cs
     unfolding unlooked
@@ -135,6 +134,7 @@ module _ (w : ℕ) where
   answer-columns k stop n (passed m ss) a = rw (pairs-columns k ss a) refl
   answer-columns k stop n (failed m ground ss) a = rw (pairs-columns k ss a) refl
   answer-columns k stop n (referred m ss) a = rw (pairs-columns k ss a) refl
+  answer-columns k stop n (held m ss) a = rw (pairs-columns k ss a) refl
   answer-columns k true n (ongoing ss) a = rw (pairs-columns k ss a) refl
   answer-columns k false n (ongoing ss) a = rw (pairs-columns k ss a) refl
 

@@ -5,12 +5,12 @@ use Rattle.arithmetic.proofs.Basics.{length-append, length-drop, take-append-se
 use Rattle.rules.specs.Logarithm.{squarings}
 use Rattle.rules.specs.Sheet.{pollutants, morePollutants, size, most, records}
 use Rattle.rules.specs.Series.{pair, Answer, refusal, judgement}
-use Rattle.rules.specs.Refusals.{Check, accepted, refused, check}
-use Rattle.rules.specs.Operations.{judge, evidence, andThen, reportBytes}
+use Rattle.rules.specs.Refusals.{accepted, refused, check}
+use Rattle.rules.specs.Operations.{judge, evidence, reportBytes}
 use Rattle.rules.specs.Demands.{Says, Accepted}
 use Rattle.rules.specs.Sizes.{openPairs}
 use Rattle.rules.specs.Converter.{widenedRecord, widen, narrow, declaresAbove, roomFor, widening, narrowing, convert, otherForm, converted, addedPollutants}
-use Rattle.accepted.proofs.Faultless.{sound, cond-accepted}
+use Rattle.accepted.proofs.Faultless.{sound, cond-accepted, then-accepted}
 use Rattle.answers.proofs.Answers.{judgement-accepted}
 use Rattle.sizes.proofs.Columns.{report-columns}
 use Rattle.sizes.proofs.Sheets as sheets
@@ -105,10 +105,6 @@ room-accepted form o e = ltb-false (length o) (length form) (cond-accepted 32 (l
 
 accepted-room : (form o : List ℕ) → length form ≤ length o → roomFor form o ≡ accepted
 accepted-room form o h = rw (le-ltb (length o) (length form) h) refl
-
-then-accepted : (c d : Check) → andThen c d ≡ accepted → (c ≡ accepted) × (d ≡ accepted)
-then-accepted accepted d e = (refl, e)
-then-accepted (refused n p) d e = let z : true ≡ false = cc in never z
 
 module _ (w k : ℕ) (b o : List ℕ) where
   widening-accepted : widening w k b o ≡ accepted → (check w b ≡ accepted) × (length (widen w k b) ≤ length o)

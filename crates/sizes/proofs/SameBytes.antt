@@ -1,18 +1,18 @@
 -- Two records that read the same at every place, past their ends too, where a byte counts as 0: a record and its widened form are such.
 -- Every field, every fault and every row is the same.
-use Rattle.arithmetic.proofs.Basics.{ℕ, zero, suc, _+_, _-_, _*_, _≡_, refl, sym, ap, Bool, not, _||_, List, [], _∷_, _++_, map, ltb, eqb}
+use Rattle.arithmetic.proofs.Basics.{ℕ, zero, suc, _+_, _-_, _*_, _≡_, refl, sym, ap, _∙_, Bool, not, _||_, List, [], _∷_, _++_, map, ltb, eqb}
 use Rattle.arithmetic.proofs.Basics.{length, getD, take, drop, replicate, any-part, any-same}
 use Rattle.arithmetic.proofs.Pairs.{Pairs, none, more, pairs-length, pairs-take, pairs-follow, pairs-those, same-map, same-any}
 use Rattle.rules.specs.Tools.{any, those, byte, two, four}
-use Rattle.rules.specs.Sheet.{Record, Pollutant, size, numbers, pollutantKind, engineKind, stopKind, smallEngineKind, runInKind, kind, number, plan}
+use Rattle.rules.specs.Sheet.{Record, Pollutant, size, numbers, pollutantKind, engineKind, stopKind, runInKind, kind, number, plan}
 use Rattle.rules.specs.Sheet.{limit, deviation, cause, measurement, volume, speed, date, ofKind, engines, heading, stopped, planNumber, pollutant, declared, gross}
 use Rattle.rules.specs.Plans.{Plan, knownDeviation, unknownDeviation, attributes, inService, corrected, planOf}
-use Rattle.rules.specs.Series.{Standing, Series, ongoing, passed, failed, referred, Before, early, equalCause, referral, leftOpen, statistics, inServiceBefore}
+use Rattle.rules.specs.Series.{Standing, Series, ongoing, passed, failed, referred, held, Before, early, equalCause, findingPending, referral, leftOpen, statistics, inServiceBefore}
 use Rattle.rules.specs.Series.{beforeRow, correction, look, rowBy, walk, after, answer, judgeRecords}
-use Rattle.rules.specs.Refusals.{misplaced, lastKind, badSmallEngine, badRunIn, badDate, badParticulate, badNumber, badPlan, badLimit, badDeviation}
-use Rattle.rules.specs.Refusals.{badValue, badMeasurement, badCause, tooMany, nonzero, unused, faults, faultOf}
+use Rattle.rules.specs.Refusals.{badDate, badParticulate, badNumber, badPlan, badLimit, badDeviation, badValue, badMeasurement, badCause, nonzero, unused}
+use Rattle.rules.specs.Refusals.{faults, faultOf}
 use Rattle.rules.specs.Converter.{widenedRecord}
-use Rattle.accepted.proofs.Faultless.{isOther}
+use Rattle.accepted.proofs.SameKinds.{SameKind, same-some, kind-misplaced, same-faults}
 
 pub record SameBytes (a b : Record) : Type 0 where
   pub at : (i : ℕ) → byte a i ≡ byte b i
@@ -114,15 +114,15 @@ same-ofKind : (k : ℕ) {rs ts : List Record} → Pairs SameBytes rs ts → Pair
 unfolding ofKind
 same-ofKind k r = same-those (λ a. eqb (kind a) k) (same-test k) r
 
-same-some : (k : ℕ) {rs ts : List Record} → Pairs SameBytes rs ts → any (λ a. eqb (kind a) k) rs ≡ any (λ b. eqb (kind b) k) ts
-same-some k r = same-any (λ a. eqb (kind a) k) (λ b. eqb (kind b) k) (same-test k) r
+same-kinds : {rs ts : List Record} → Pairs SameBytes rs ts → Pairs SameKind rs ts
+same-kinds r = pairs-follow same-kind r
 
 pub same-heading : {rs ts : List Record} → Pairs SameBytes rs ts → Pairs SameBytes (heading rs) (heading ts)
 unfolding heading
 same-heading r = same-those (λ a. not (eqb (kind a) engineKind || eqb (kind a) stopKind)) (λ a b s. rw (same-kind a b s) refl) r
 
 same-stopped : {rs ts : List Record} → Pairs SameBytes rs ts → stopped rs ≡ stopped ts
-same-stopped r = same-some stopKind r
+same-stopped r = same-some stopKind (same-kinds r)
 
 same-planNumber : {rs ts : List Record} → Pairs SameBytes rs ts → planNumber rs ≡ planNumber ts
 unfolding planNumber
@@ -135,31 +135,12 @@ same-declared r = same-map pollutant pollutant same-pollutant (same-ofKind pollu
 
 -- ---- faults
 
-same-misplaced : {rs ts : List Record} (a b : Record) → Pairs SameBytes rs ts → SameBytes a b → misplaced rs a ≡ misplaced ts b
-unfolding misplaced
-same-misplaced a b none s = rw (same-kind a b s) refl
-same-misplaced a b (more h r) s =
-    rw (same-kind a b s, same-stopped (more h r), same-any isOther isOther (λ c d i. ap not (same-test pollutantKind c d i)) (more h r)) refl
-
-same-lastKind : {rs ts : List Record} → Pairs SameBytes rs ts → lastKind rs ≡ lastKind ts
-same-lastKind none = refl
-same-lastKind (more {x} {y} s none) = same-kind x y s
-same-lastKind (more s (more h r)) = same-lastKind (more h r)
-
-same-badSmallEngine : {rs ts : List Record} → Pairs SameBytes rs ts → badSmallEngine rs ≡ badSmallEngine ts
-unfolding badSmallEngine
-same-badSmallEngine r = rw (same-some smallEngineKind r, same-lastKind r, same-planNumber r) refl
-
-same-badRunIn : {rs ts : List Record} → Pairs SameBytes rs ts → badRunIn rs ≡ badRunIn ts
-unfolding badRunIn
-same-badRunIn r = rw (same-some runInKind r, same-some engineKind r, same-planNumber r) refl
-
-same-badPlan : {rs ts : List Record} (a b : Record) → Pairs SameBytes rs ts → SameBytes a b → badPlan rs a ≡ badPlan ts b
-unfolding badPlan
-same-badPlan a b none s = rw (same-plan a b s) refl
-same-badPlan a b (more h r) s = rw (same-plan a b s, same-planNumber (more h r)) refl
-
 module _ (a b : Record) (s : SameBytes a b) where
+  same-badPlan : (before : List Record) → badPlan before a ≡ badPlan before b
+  unfolding badPlan
+  same-badPlan [] = rw (same-plan a b s) refl
+  same-badPlan (o ∷ before) = rw (same-plan a b s) refl
+
   same-badMeasurement : (w : ℕ) (ps : List Pollutant) → badMeasurement w ps a ≡ badMeasurement w ps b
   unfolding badMeasurement
   same-badMeasurement w ps = any-same (badValue ps b) (badValue ps a) (λ p. rw (same-measurement a b s p) refl) (numbers w)
@@ -177,18 +158,14 @@ module _ (a b : Record) (s : SameBytes a b) where
         same-nonzero a b s 1 4,
       ) refl
 
-  pub same-fault : (w : ℕ) {rs ts : List Record} → Pairs SameBytes rs ts → faultOf w rs a ≡ faultOf w ts b
-  unfolding faultOf faults badDate badParticulate badNumber badLimit badDeviation badCause tooMany
-  same-fault w r =
+  -- after the same records
+  same-own : (w : ℕ) (before : List Record) → faultOf w before a ≡ faultOf w before b
+  unfolding faultOf faults badDate badParticulate badNumber badLimit badDeviation badCause
+  same-own w before =
       rw (
-        same-misplaced a b r s,
-        same-badSmallEngine r,
-        same-badRunIn r,
-        same-badPlan a b r s,
-        same-declared r,
+        kind-misplaced before a b (same-kind a b s),
+        same-badPlan before,
         same-badMeasurement w _,
-        same-planNumber r,
-        pairs-length (same-ofKind engineKind r),
         same-unused w,
         same-kind a b s,
         same-number a b s,
@@ -201,6 +178,9 @@ module _ (a b : Record) (s : SameBytes a b) where
         same-speed a b s,
         same-date a b s,
       ) refl
+
+  pub same-fault : (w : ℕ) {rs ts : List Record} → Pairs SameBytes rs ts → faultOf w rs a ≡ faultOf w ts b
+  same-fault w {rs} {ts} r = same-faults w (same-kinds r) (same-planNumber r) (same-declared r) a ∙ same-own w ts
 
 -- ---- the series
 
@@ -242,6 +222,7 @@ module _ (plan : Plan) {vs us : List Record} (v : Pairs SameBytes vs us) (q : �
   same-row : (b : Before) (n : ℕ) {es fs : List Record} → Pairs SameBytes es fs → (ss : List Standing) → rowBy b plan vs q n es ss ≡ rowBy b plan us q n fs ss
   same-row early n r ss = refl
   same-row equalCause n r ss = refl
+  same-row findingPending n r ss = refl
   same-row referral n r ss = refl
   same-row leftOpen n r ss = refl
   same-row statistics n r ss = rw (same-look n r ss) refl
@@ -252,6 +233,7 @@ module _ (plan : Plan) {vs us : List Record} (v : Pairs SameBytes vs us) (q : �
     same-walk n r (passed m ss) = refl
     same-walk n r (failed m ground ss) = refl
     same-walk n r (referred m ss) = refl
+    same-walk n r (held m ss) = refl
 
     same-after : {es fs : List Record} → Pairs SameBytes es fs → (n : ℕ) → after plan ps vs q es n ≡ after plan ps us q fs n
     unfolding after

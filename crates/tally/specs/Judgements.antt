@@ -9,11 +9,12 @@ use Rattle.rules.specs.Sizes.{openPairs}
 use Rattle.decisions.specs.declared.Decisions.{Decisions}
 use Rattle.decisions.specs.Decisions.{decisionsIs, declaredIs}
 use Rattle.tally.specs.declared.Verdict.{Verdict}
-use Rattle.tally.specs.declared.Verdict.the-variants.{Another, Pass, FailByRow, FailByCause, FailByStop, Referred}
+use Rattle.tally.specs.declared.Verdict.the-variants.{Another, Pass, FailByRow, FailByCause, FailByStop, Referred, Held}
 use Rattle.tally.specs.declared.Numbers.{Numbers}
 use Rattle.tally.specs.declared.Judgement.{Judgement}
 
--- "verdict (0 another, 1 pass, 2 fail, 3 referred), engine .., ground (0 none, 1 a row, 2 equal cause, 3 stopped, 4 referred)"
+-- "verdict (0 another, 1 pass, 2 fail, 3 referred), engine .., ground (0 none, 1 a row, 2 equal cause, 3 stopped, 4 referred)"; 02, F-5: "the
+-- verdict is 4, printed `held`, at that row with ground 5"
 abbrev pub numbersOf : Verdict → Numbers
 numbersOf (Another n) = record { verdict = 0; engine = n; ground = 0 }
 numbersOf (Pass n) = record { verdict = 1; engine = n; ground = 1 }
@@ -21,6 +22,7 @@ numbersOf (FailByRow n) = record { verdict = 2; engine = n; ground = 1 }
 numbersOf (FailByCause n) = record { verdict = 2; engine = n; ground = 2 }
 numbersOf (FailByStop n) = record { verdict = 2; engine = n; ground = 3 }
 numbersOf (Referred n) = record { verdict = 3; engine = n; ground = 4 }
+numbersOf (Held n) = record { verdict = 4; engine = n; ground = 5 }
 
 abbrev pub numbersAnswer : Numbers → List rules.Pair → rules.Answer
 numbersAnswer n pairs = rules.judgement (n .verdict) (n .engine) (n .ground) pairs

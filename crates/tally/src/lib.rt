@@ -20,7 +20,7 @@ use record::record_at;
 use statistics::column;
 use summary::Summary;
 
-// A verdict with its engine; for another, the engines so far. A fail has its ground in its name.
+// A verdict with its engine; for another, the engines so far, and for held the row. A fail has its ground in its name.
 pub enum Verdict {
     Another(u8),
     Pass(u8),
@@ -28,9 +28,10 @@ pub enum Verdict {
     FailByCause(u8),
     FailByStop(u8),
     Referred(u8),
+    Held(u8),
 }
 
-// "verdict (0 another, 1 pass, 2 fail, 3 referred), engine (for another, the engines so far), ground (0 none, 1 a row, 2 equal cause, 3 stopped, 4 referred)"
+// "verdict (0 another, 1 pass, 2 fail, 3 referred), engine (for another, the engines so far), ground (0 none, 1 a row, 2 equal cause, 3 stopped, 4 referred)"; 02, F-5: "the verdict is 4, printed `held`, at that row with ground 5"
 pub struct Numbers {
     pub verdict: u8,
     pub engine: u8,
@@ -59,6 +60,7 @@ impl Verdict {
             Verdict::FailByCause(n) => numbered(2, n, 2),
             Verdict::FailByStop(n) => numbered(2, n, 3),
             Verdict::Referred(n) => numbered(3, n, 4),
+            Verdict::Held(n) => numbered(4, n, 5),
         }
     }
 }
@@ -133,6 +135,7 @@ impl Tally {
                 }
             }
             Gate::Cause(n) => Verdict::FailByCause(n + 1),
+            Gate::Held(n) => Verdict::Held(n + 1),
             Gate::Referral(n) => Verdict::Referred(n + 1),
         }
     }

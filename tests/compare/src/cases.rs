@@ -11,21 +11,27 @@ use second::{FOUR_POLLUTANTS, LONGEST_REPORT, SIX_POLLUTANTS, SIZES};
 use std::fmt;
 use std::ops::ControlFlow;
 
-/// Report and append as the bench's control program calls them, of the delivered library or of
-/// the second implementation.
-pub trait Operations {
+/// Report as the bench's control program calls it, of the delivered library or of the second
+/// implementation.
+pub trait Reporter {
     fn report(&self, size: usize, sheet: &[u8], output: &mut [u8]) -> u32;
+}
+
+/// Report and append.
+pub trait Operations: Reporter {
     fn append(&self, size: usize, buffer: &mut [u8], used: usize, record: &[u8]) -> u32;
 }
 
 /// The second implementation by some document.
 pub struct Second<'a, D: ?Sized>(pub &'a D);
 
-impl<D: Document + ?Sized> Operations for Second<'_, D> {
+impl<D: Document + ?Sized> Reporter for Second<'_, D> {
     fn report(&self, size: usize, sheet: &[u8], output: &mut [u8]) -> u32 {
         code(report(self.0, size, sheet, output))
     }
+}
 
+impl<D: Document + ?Sized> Operations for Second<'_, D> {
     fn append(&self, size: usize, buffer: &mut [u8], used: usize, record: &[u8]) -> u32 {
         code(append(self.0, size, buffer, used, record))
     }
@@ -37,9 +43,9 @@ pub fn code(result: Result<(), Refusal>) -> u32 {
 }
 
 /// What the call returns, and the report of a sheet.
-pub fn reported(operations: &dyn Operations, size: usize, sheet: &[u8]) -> Reported {
+pub fn reported(reporter: &dyn Reporter, size: usize, sheet: &[u8]) -> Reported {
     let mut report = unwritten_report(size);
-    let code = operations.report(size, sheet, &mut report[..size]);
+    let code = reporter.report(size, sheet, &mut report[..size]);
     (code, report)
 }
 

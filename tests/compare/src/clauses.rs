@@ -1,7 +1,7 @@
-//! By which clause of document 02's requests F-1 and F-2 a sheet was refused, as far as their other
-//! clauses would not have refused it too; and by which it was accepted.
+//! By which clause of document 02's requests F-1, F-2 and F-5 a sheet was refused, as far as their
+//! other clauses would not have refused it too; and by which it was accepted.
 
-use crate::draft::{SmallEngine, LARGEST};
+use crate::draft::{SmallEngine, LARGEST, PENDING};
 use crate::draft::{ENGINE, PARTICULATES, POLLUTANT, RUN_IN, SMALL_ENGINE, STOP};
 use second::{Document, Document01};
 
@@ -9,7 +9,7 @@ use second::{Document, Document01};
 pub type Clause = (u8, &'static str);
 
 /// Those that have to be seen.
-pub const CLAUSES: [Clause; 24] = [
+pub const CLAUSES: [Clause; 26] = [
     (3, "a small engine first"),
     (3, "a small engine after a stop"),
     (3, "a pollutant after a small engine"),
@@ -19,6 +19,8 @@ pub const CLAUSES: [Clause; 24] = [
     (8, "run-in value 0"),
     (8, "run-in value over 9,999,999"),
     (8, "run-in value of an undeclared pollutant"),
+    (9, "65,535 of a vehicle that is no gross emitter"),
+    (9, "65,535 outside plan 4"),
     (12, "byte 1 of run-in values"),
     (12, "byte 2 of run-in values"),
     (12, "byte 3 of run-in values"),
@@ -49,6 +51,7 @@ impl Refused<'_> {
         let name = match self.number {
             3 => self.misplaced(),
             8 if self.kind(self.at) == RUN_IN => self.value_that_does_not_fit(),
+            9 => self.pending_elsewhere(),
             12 if self.kind(self.at) == RUN_IN => self.byte_not_zero(),
             16 | 19 => self.elsewhere(),
             18 => self.not_the_rules(),
@@ -117,6 +120,15 @@ impl Refused<'_> {
         });
         match values.flatten().collect::<Vec<_>>()[..] {
             [name] => Some(name),
+            _ => None,
+        }
+    }
+
+    /// A pending finding where there is no gross emitter.
+    fn pending_elsewhere(&self) -> Option<&'static str> {
+        match (Document01.cause(self.record()), self.sheet[2]) {
+            (PENDING, 4) => Some("65,535 of a vehicle that is no gross emitter"),
+            (PENDING, _) => Some("65,535 outside plan 4"),
             _ => None,
         }
     }
@@ -191,16 +203,23 @@ pub fn has(kind: u8, size: usize, sheet: &[u8]) -> bool {
     first_of(kind, size, sheet).is_some()
 }
 
+fn engines(size: usize, sheet: &[u8]) -> impl Iterator<Item = &[u8]> {
+    let records = sheet.chunks_exact(size);
+    records.filter(|record| record[0] == ENGINE)
+}
+
+/// The causes of the engines, in their order.
+pub fn causes(size: usize, sheet: &[u8]) -> impl Iterator<Item = u16> + '_ {
+    engines(size, sheet).map(|record| Document01.cause(record))
+}
+
 /// The places of an accepted run-in sheet that have an end of the range: of its limits, its values,
 /// and what its first two engines measured.
 pub fn run_in_ends(size: usize, sheet: &[u8]) -> Vec<(&'static str, u32)> {
     let Some(values) = first_of(RUN_IN, size, sheet) else {
         return Vec::new();
     };
-    let engines = sheet
-        .chunks_exact(size)
-        .filter(|record| record[0] == ENGINE);
-    let measured = ["x_1", "x_2"].into_iter().zip(engines);
+    let measured = ["x_1", "x_2"].into_iter().zip(engines(size, sheet));
     let mut ends = Vec::new();
     for (name, record) in [("the value", values)].into_iter().chain(measured) {
         let numbers = (0..Document01.pollutants(size)).map(|p| Document01.measurement(record, p));
@@ -219,6 +238,97 @@ pub const ENDS: [u32; 2] = [1, LARGEST];
 
 /// Where `run_in_ends` looks for them.
 pub const PLACES_OF_ENDS: [&str; 4] = ["the limit", "the value", "x_1", "x_2"];
+
+/// An accepted sheet of plan 4, with what was reported of it.
+pub struct InService {
+    verdict: u8,
+    ground: u8,
+    any_passed: bool,
+    /// The causes of the vehicles up to that of the verdict, and of those behind it; 0 of one that
+    /// is no gross emitter.
+    among: Vec<u16>,
+    behind: Vec<u16>,
+}
+
+/// What a sheet can show, by its name, and whether it does.
+type Shown = (&'static str, fn(&InService) -> bool);
+
+/// What accepted sheets with pending vehicles have to show of F-5.
+pub const OF_PENDING: [Shown; 10] = [
+    ("another below 3 vehicles", |sheet| {
+        sheet.verdict == 0 && has_pending(&sheet.among)
+    }),
+    ("equal cause beside a pending vehicle", |sheet| {
+        sheet.ground == 2 && has_pending(&sheet.among)
+    }),
+    ("a pass before a pending vehicle", |sheet| {
+        sheet.verdict == 1 && has_pending(&sheet.behind)
+    }),
+    ("a fail before a pending vehicle", |sheet| {
+        sheet.verdict == 2 && has_pending(&sheet.behind)
+    }),
+    ("held with a pollutant passed", |sheet| {
+        sheet.is_held() && sheet.any_passed
+    }),
+    ("held by two pending vehicles", |sheet| {
+        sheet.is_held()
+            && sheet
+                .among
+                .iter()
+                .filter(|&&cause| cause == PENDING)
+                .count()
+                == 2
+    }),
+    ("held before a pending vehicle", |sheet| {
+        sheet.is_held() && has_pending(&sheet.behind)
+    }),
+    ("held before equal causes", |sheet| {
+        sheet.is_held() && has_equal(&sheet.behind)
+    }),
+    ("held in row 15 beside another gross emitter", |sheet| {
+        let gross = sheet.among.iter().filter(|&&cause| cause != 0);
+        sheet.is_held() && sheet.among.len() == 15 && gross.count() > 1
+    }),
+    ("held on a full sheet", |sheet| {
+        sheet.is_held() && sheet.among.len() + sheet.behind.len() == 15
+    }),
+];
+
+impl InService {
+    pub fn new(size: usize, sheet: &[u8], report: &[u8]) -> Self {
+        let mut causes: Vec<u16> = causes(size, sheet).collect();
+        let behind = causes.split_off(report[3].into());
+        let pairs = report[4..][..2 * Document01.pollutants(size)].chunks_exact(2);
+        InService {
+            verdict: report[1],
+            ground: report[2],
+            any_passed: pairs.into_iter().any(|pair| pair[0] == 1),
+            among: causes,
+            behind,
+        }
+    }
+
+    fn is_held(&self) -> bool {
+        self.verdict == 4
+    }
+
+    /// The row at which it is held, if it is.
+    pub fn held_row(&self) -> Option<usize> {
+        self.is_held().then_some(self.among.len())
+    }
+}
+
+fn has_pending(causes: &[u16]) -> bool {
+    causes.contains(&PENDING)
+}
+
+/// Two known causes are equal.
+fn has_equal(causes: &[u16]) -> bool {
+    let known = |&&cause: &&u16| cause != 0 && cause != PENDING;
+    let mut known: Vec<u16> = causes.iter().filter(known).copied().collect();
+    known.sort_unstable();
+    known.windows(2).any(|two| two[0] == two[1])
+}
 
 fn small_engine(record: &[u8]) -> SmallEngine {
     SmallEngine {

@@ -1,8 +1,8 @@
 //! The sheets that every suite goes through, in records of one size: the directed sheets of small
 //! engines and of run-in values, pairs on a line and series exact to a unit of W, on run-in sheets
-//! too and all chosen by the paper, the directed sheets of plans 3, 4 and 5, some of all these with
-//! a small engine or run-in values put in, damaged sheets for every refusal, the longest sheets,
-//! sheets of the other size, and random ones.
+//! too and all chosen by the paper, the directed sheets of plans 3, 4 and 5 and of pending vehicles,
+//! some of all these with a small engine or run-in values put in, damaged sheets for every refusal,
+//! the longest sheets, sheets of the other size, and random ones.
 
 use crate::attributes;
 use crate::corrected;
@@ -11,6 +11,7 @@ use crate::draft::{stop_record, Draft, ENGINE, POLLUTANT, RUN_IN, SMALL_ENGINE, 
 use crate::exact::{self, Stand};
 use crate::pairs::{self, Pair, Search};
 use crate::paper::{Cell, Chosen, Paper, Single};
+use crate::pending;
 use crate::refusals::{unused_bytes, Sheet, Way, WAYS};
 use crate::run_in;
 use crate::service;
@@ -28,8 +29,8 @@ pub struct Scale {
     pub exact: bool,
     pub rounds_of_damage: usize,
     /// One of so many of the longest sheets that are damaged, of the sheets damaged twice and of the
-    /// directed ones of run-in values and of plan 4. Odd, so that of sheets that differ in four or in
-    /// eight ways by turns each is taken.
+    /// directed ones of run-in values, of plan 4 and of pending vehicles. Odd, so that of sheets that
+    /// differ in four or in eight ways by turns each is taken.
     pub one_directed_in: usize,
     pub random_sheets: usize,
     pub promises: usize,
@@ -54,6 +55,18 @@ pub const QUICK: Scale = Scale {
     promises: 200,
 };
 
+impl Scale {
+    /// Few sheets on a line, for an operation that judges nothing.
+    pub fn of_no_judge(self) -> Self {
+        Scale {
+            pairs_in_cell: 1,
+            exact: false,
+            random_sheets: self.random_sheets / 2,
+            ..self
+        }
+    }
+}
+
 /// Where a sheet comes from.
 #[derive(Clone, Copy)]
 pub enum Origin {
@@ -62,8 +75,9 @@ pub enum Origin {
     Pair(Cell),
     Exact(Cell, Stand),
     Attributes,
-    InService,
     Corrected,
+    InService,
+    Pending,
     PutIn,
     Damage(usize),
     TwoDamages(usize, usize),
@@ -89,8 +103,9 @@ impl fmt::Display for Origin {
                 )
             }
             Origin::Attributes => write!(formatter, "directed sheet of plan 3"),
-            Origin::InService => write!(formatter, "directed sheet of plan 4"),
             Origin::Corrected => write!(formatter, "directed sheet of plans 2 and 5"),
+            Origin::InService => write!(formatter, "directed sheet of plan 4"),
+            Origin::Pending => write!(formatter, "directed sheet of pending vehicles"),
             Origin::PutIn => write!(formatter, "sheet with a record put in"),
             Origin::Damage(way) => {
                 write!(
@@ -188,6 +203,8 @@ pub struct Corpus {
     exact: Vec<(Cell, Stand, Chosen)>,
     attributes: Vec<Chosen>,
     corrected: Vec<Chosen>,
+    in_service: Vec<Chosen>,
+    pub pending: Vec<Chosen>,
     put_in: Vec<Chosen>,
     directed: Vec<(Origin, Vec<u8>)>,
     random_sheets: usize,
@@ -219,6 +236,8 @@ impl Corpus {
             exact: exact_sheets(paper, exact, size),
             attributes,
             corrected,
+            in_service: service::sheets(paper, size, scale.one_directed_in),
+            pending: pending::sheets(paper, size, scale.one_directed_in),
             put_in,
             directed: directed_sheets(size, scale),
             random_sheets: scale.random_sheets,
@@ -237,6 +256,8 @@ impl Corpus {
             .chain(exact)
             .chain(labelled(Origin::Attributes, &self.attributes))
             .chain(labelled(Origin::Corrected, &self.corrected))
+            .chain(labelled(Origin::InService, &self.in_service))
+            .chain(labelled(Origin::Pending, &self.pending))
             .chain(labelled(Origin::PutIn, &self.put_in))
     }
 
@@ -286,8 +307,7 @@ fn exact_sheets(paper: &Paper, exact: &[Exact], size: usize) -> Vec<(Cell, Stand
 
 fn directed_sheets(size: usize, scale: Scale) -> Vec<(Origin, Vec<u8>)> {
     let mut random = Random::new(0xD1EC7ED);
-    let in_service = labelled(Origin::InService, service::sheets(size));
-    let mut directed: Vec<_> = in_service.step_by(scale.one_directed_in).collect();
+    let mut directed = Vec::new();
     for round in 0..scale.rounds_of_damage {
         directed.extend(damaged_sheets(size, &mut random));
         let longest = longest_draft(size, UP_TO_32[round % UP_TO_32.len()], &mut random);

@@ -1,10 +1,10 @@
 //! A sheet in the making, as document 01's records describe it, F-1's with a small engine, F-2's
-//! with run-in values, and F-10's with six pollutants.
+//! with run-in values, F-5's with pending vehicles, and F-10's with six pollutants.
 
 use crate::calendar::random_day;
 use random::Random;
 use second::{judge, Document, Document01};
-use second::{Judgement, Refusal, Verdict, MOST_POLLUTANTS, PLANS};
+use second::{Judgement, Refusal, MOST_POLLUTANTS, PLANS};
 
 pub const LARGEST: u32 = 9_999_999;
 
@@ -14,6 +14,11 @@ pub const ENGINE: u8 = 2;
 pub const STOP: u8 = 3;
 pub const SMALL_ENGINE: u8 = 5;
 pub const RUN_IN: u8 = 6;
+
+/// The largest cause that a finding can give.
+pub const LARGEST_CAUSE: u16 = 65_534;
+/// "Cause 65,535 now marks a gross emitter whose finding is pending" (F-5).
+pub const PENDING: u16 = 65_535;
 
 /// The pollutant of which a small engine's limit is asked.
 pub const PARTICULATES: u8 = 4;
@@ -160,10 +165,16 @@ impl Draft {
     }
 
     /// "A sheet is accepted if judging doesn't refuse it, and decided if its verdict is then not
-    /// another."
+    /// another", nor held (F-5).
     pub fn is_decided(&self) -> bool {
-        let judged = self.judged();
-        judged.is_ok_and(|judgement| judgement.verdict != Verdict::Another)
+        self.judged().is_ok_and(|judgement| judgement.is_decided())
+    }
+
+    /// The pending vehicles, engines counted from 1.
+    pub fn pending(&self) -> Vec<usize> {
+        let vehicles = (1..).zip(&self.engines);
+        let pending = vehicles.filter(|(_, vehicle)| vehicle.cause == PENDING);
+        pending.map(|(engine, _)| engine).collect()
     }
 
     /// Adds an engine; under plan 4 a gross emitter gets the cause.
@@ -358,11 +369,17 @@ fn random_count(random: &mut Random, last: usize) -> usize {
 }
 
 fn random_cause(random: &mut Random) -> u16 {
-    match random.below(4) {
-        0 => random.pick(&[1, 255, 256, 65_534]),
-        1 => random.between(1, 3) as u16,
-        _ => random.between(1, 65_534) as u16,
+    match random.below(8) {
+        0 => PENDING,
+        1 | 2 => random.pick(&[1, 255, 256, LARGEST_CAUSE]),
+        3 | 4 => random.between(1, 3) as u16,
+        _ => random_finding(random),
     }
+}
+
+/// Any that can be entered.
+pub fn random_finding(random: &mut Random) -> u16 {
+    random.between(1, LARGEST_CAUSE.into()) as u16
 }
 
 fn random_measurements(random: &mut Random, draft: &Draft, spreads: &[Spread]) -> Measurements {

@@ -2,7 +2,8 @@
 //! counting. `compare` holds report and append of the delivered library against the second
 //! implementation; `compare_probe` holds the logarithm, evidence, the printed lines and the reader,
 //! and the logarithm also against its bracket; `compare_convert` holds the converter, and what it
-//! makes against the sheets that it was given; `compare_declared` holds declared values with their
+//! makes against the sheets that it was given; `compare_findings` holds the operation that enters a
+//! finding, and the reports before and after it; `compare_declared` holds declared values with their
 //! tests. Sheets are of records of 20 bytes, and again of records of 28.
 
 pub mod attributes;
@@ -16,11 +17,13 @@ pub mod corrected;
 pub mod declared;
 pub mod draft;
 pub mod exact;
+pub mod findings;
 pub mod kinds;
 pub mod memory;
 pub mod natural;
 pub mod pairs;
 pub mod paper;
+pub mod pending;
 pub mod program;
 pub mod promises;
 pub mod refusals;

@@ -3,6 +3,7 @@
 
 use second::variants::{Family, Wrong};
 use second::Document;
+use std::ops::ControlFlow;
 use std::process::ExitCode;
 
 /// Without an argument everything is gone through; `--quick` takes a part, for a run under
@@ -22,6 +23,21 @@ pub fn run(
             eprintln!("usage: {program} [--quick | --mutants]");
             ExitCode::FAILURE
         }
+    }
+}
+
+/// What of many calls shows a wrong variant first.
+#[derive(Default)]
+pub struct First(pub Option<String>);
+
+impl First {
+    /// To the next call if this one is answered alike, and else its name.
+    pub fn note(&mut self, alike: bool, name: impl FnOnce() -> String) -> ControlFlow<()> {
+        if alike {
+            return ControlFlow::Continue(());
+        }
+        self.0 = Some(name());
+        ControlFlow::Break(())
     }
 }
 

@@ -5,28 +5,34 @@
 //! hold with a small engine (F-1) as without, and its record decides nothing. With run-in values
 //! (F-2) keeping and ending hold too; "on a run-in sheet the run-in values are measurements too;
 //! lowering keeps its meaning there if the first engine's zero-hour values are the same in both
-//! sheets".
+//! sheets". With pending vehicles (F-5) "a held sheet counts as undecided, and a full sheet with a
+//! pending vehicle may be held"; "a verdict other than held is the same under every finding that
+//! could follow", and what a finding makes of an accepted sheet is accepted.
 
-use crate::draft::{full_draft, plans_of_production, random_draft, random_small_engine};
-use crate::draft::{Draft, Pollutant};
+use crate::corpus::Scale;
+use crate::draft::{full_draft, plans_of_production, random_draft, random_finding};
+use crate::draft::{random_small_engine, Draft, Pollutant, PENDING};
 use crate::paper::measured_alone;
+use crate::pending;
 use crate::tally::Tally;
 use random::Random;
-use second::{judge, Document, Document01, Judgement, Verdict, PLANS};
+use second::{finding, judge, Document, Document01, Judgement, Verdict, PLANS};
 use std::collections::BTreeMap;
 use std::fmt;
 
-/// The plan of a sheet, and whether it has a small engine and run-in values.
+/// The plan of a sheet, and whether it has a small engine, run-in values and pending vehicles.
 #[derive(Clone, Copy, PartialEq, Eq, PartialOrd, Ord)]
 struct Group {
     plan: u8,
     small_engine: bool,
     run_in: bool,
+    pending: bool,
 }
 
 impl fmt::Display for Group {
     fn fmt(&self, formatter: &mut fmt::Formatter) -> fmt::Result {
         let with = match (self.small_engine, self.run_in) {
+            _ if self.pending => " with pending vehicles",
             (false, false) => "",
             (true, false) => " with a small engine",
             (false, true) => " with run-in values",
@@ -44,19 +50,26 @@ type Counts = BTreeMap<Group, u64>;
 struct Promises {
     kept: Counts,
     full: Counts,
+    full_held: Counts,
     lower: Counts,
+    accepted: Counts,
+    the_same: Counts,
 }
 
-/// Looks at a full sheet of each group, which with its stop also begins with a decided one, and at
-/// `count` random sheets; prints how often each promise was put to the test.
-pub fn keep(size: usize, count: usize, tally: &mut Tally) {
+/// Looks at a full sheet of each group, which with its stop also begins with a decided one, at the
+/// directed sheets of pending vehicles, and at random sheets; prints how often each promise was put
+/// to the test.
+pub fn keep(size: usize, scale: Scale, tally: &mut Tally) {
     let mut random = Random::new(0xD3);
     let mut promises = Promises::default();
-    for group in groups() {
+    for group in groups().filter(|group| !group.pending) {
         let draft = full_draft_of(size, group, &mut random);
         promises.look_at(&draft, &mut random, tally);
     }
-    for _ in 0..count {
+    for draft in pending::drafts(size, scale.one_directed_in) {
+        promises.look_at(&draft, &mut random, tally);
+    }
+    for _ in 0..scale.promises {
         let draft = random_draft(size, &mut random);
         promises.look_at(&draft, &mut random, tally);
     }
@@ -77,20 +90,25 @@ fn full_draft_of(size: usize, group: Group, random: &mut Random) -> Draft {
     draft
 }
 
-/// Each plan without a small engine and run-in values, and with each of them and both if it may
-/// have them.
+/// Each plan without a small engine, run-in values and pending vehicles; with each of the first two
+/// and both if it may have them, and plan 4 with pending vehicles.
 fn groups() -> impl Iterator<Item = Group> {
     let group = |plan, [small_engine, run_in]: [bool; 2]| Group {
         plan,
         small_engine,
         run_in,
+        pending: false,
+    };
+    let pending = Group {
+        pending: true,
+        ..group(4, [false, false])
     };
     let plain = (1..=PLANS).map(move |plan| group(plan, [false, false]));
     let others = plans_of_production().flat_map(move |plan| {
         let kinds = [[true, false], [false, true], [true, true]];
         kinds.map(|kinds| group(plan, kinds))
     });
-    plain.chain(others)
+    plain.chain(others).chain([pending])
 }
 
 /// Lowering is promised under plans 1 and 3.
@@ -108,12 +126,24 @@ impl Promises {
             plan: draft.plan,
             small_engine: draft.small_engine.is_some(),
             run_in: draft.run_in.is_some(),
+            pending: !draft.pending().is_empty(),
         };
+        let held = judgement.verdict == Verdict::Held;
         *self.kept.entry(group).or_default() += decision_is_kept(draft, &judgement, tally);
-        *self.full.entry(group).or_default() += full_is_decided(draft, tally);
+        let full = if held {
+            &mut self.full_held
+        } else {
+            &mut self.full
+        };
+        *full.entry(group).or_default() += full_is_decided(draft, &judgement, tally);
         let lower = self.lower.entry(group).or_default();
         *lower += lower_is_no_worse(draft, &judgement, random, tally);
         small_engine_decides_nothing(draft, &judgement, tally);
+        let findings = findings_keep(draft, &judgement, random, tally);
+        *self.accepted.entry(group).or_default() += findings;
+        if !held {
+            *self.the_same.entry(group).or_default() += findings;
+        }
     }
 
     fn print(&self, tally: &mut Tally) {
@@ -121,9 +151,16 @@ impl Promises {
         let begun = "decided sheets, each begun by another: the decision is kept";
         print_counts(begun, &self.kept, groups(), tally);
         print_counts("full sheets: decided", &self.full, groups(), tally);
+        let with_pending = || groups().filter(|group| group.pending);
+        let held = "full sheets: held, with a pending vehicle";
+        print_counts(held, &self.full_held, with_pending(), tally);
         let lowered = "sheets with lower measurements: no worse";
         let lowering = groups().filter(|group| promises_lowering(group.plan));
         print_counts(lowered, &self.lower, lowering, tally);
+        let accepted = "findings: the sheet is accepted";
+        print_counts(accepted, &self.accepted, with_pending(), tally);
+        let the_same = "findings on a sheet that is not held: every answer is the same";
+        print_counts(the_same, &self.the_same, with_pending(), tally);
     }
 }
 
@@ -148,7 +185,7 @@ fn decision_is_kept(draft: &Draft, whole: &Judgement, tally: &mut Tally) -> u64 
     for length in (draft.size..sheet.len()).step_by(draft.size) {
         let begun = judge(&Document01, draft.size, &sheet[..length]);
         let begun = begun.expect("the start of an accepted sheet");
-        if begun.verdict != Verdict::Another {
+        if begun.is_decided() {
             tally.expect(begun == *whole, &sheet, "a longer sheet keeps the decision");
             looked_at += 1;
         }
@@ -156,16 +193,58 @@ fn decision_is_kept(draft: &Draft, whole: &Judgement, tally: &mut Tally) -> u64 
     looked_at
 }
 
-fn full_is_decided(draft: &Draft, tally: &mut Tally) -> u64 {
+fn full_is_decided(draft: &Draft, judgement: &Judgement, tally: &mut Tally) -> u64 {
     let full = draft.engines.len() == Document01.last_row(draft.plan);
     if full {
+        let held = judgement.verdict == Verdict::Held && !draft.pending().is_empty();
         tally.expect(
-            draft.is_decided(),
+            judgement.is_decided() || held,
             &draft.bytes(),
-            "a full sheet is decided",
+            "a full sheet is decided, or held with a pending vehicle",
         );
     }
     u64::from(full)
+}
+
+/// A finding for each pending vehicle, one after the other in any order, and how many there are.
+fn findings_keep(
+    draft: &Draft,
+    judgement: &Judgement,
+    random: &mut Random,
+    tally: &mut Tally,
+) -> u64 {
+    let mut pending = draft.pending();
+    let mut sheet = draft.bytes();
+    random.shuffle(&mut pending);
+    for &engine in &pending {
+        let cause = any_finding(draft, random);
+        let entered = finding(
+            &Document01,
+            draft.size,
+            &mut sheet,
+            engine as u32,
+            cause.into(),
+        );
+        let after = judge(&Document01, draft.size, &sheet);
+        let accepted = entered.is_ok() && after.is_ok();
+        tally.expect(accepted, &sheet, "a finding keeps acceptance");
+        let the_same = judgement.verdict == Verdict::Held || after == Ok(*judgement);
+        tally.expect(the_same, &sheet, "a verdict is the same under findings");
+    }
+    pending.len() as u64
+}
+
+/// Often one of the known causes.
+fn any_finding(draft: &Draft, random: &mut Random) -> u16 {
+    let causes = draft.engines.iter().map(|engine| engine.cause);
+    let known: Vec<u16> = causes
+        .filter(|cause| ![0, PENDING].contains(cause))
+        .collect();
+    if known.is_empty() || random.one_in(2) {
+        random_finding(random)
+    } else {
+        random.pick(&known)
+    }
 }
 
 fn lower_is_no_worse(

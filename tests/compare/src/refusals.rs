@@ -5,6 +5,7 @@ use crate::calendar::random_day;
 use crate::draft::{random_draft, random_run_in, random_small_engine, stop_record};
 use crate::draft::{Draft, SmallEngine};
 use crate::draft::{ENGINE, PARTICULATES, POLLUTANT, RUN_IN, SMALL_ENGINE, STOP};
+use crate::draft::{LARGEST_CAUSE, PENDING};
 use random::Random;
 use second::{Document, Document01, PLANS};
 use std::ops::Range;
@@ -35,7 +36,7 @@ const fn way(refusal: u8, name: &'static str, spoil: fn(&mut Sheet, &mut Random)
     }
 }
 
-pub const WAYS: [Way; 88] = [
+pub const WAYS: [Way; 89] = [
     way(1, "no bytes", |sheet, _| {
         sheet.bytes.clear();
         true
@@ -400,14 +401,19 @@ pub const WAYS: [Way; 88] = [
     way(9, "a gross emitter without cause", |sheet, random| {
         sheet.plan() == 4 && sheet.set_cause(random, is_gross_emitter, 0)
     }),
-    way(9, "a gross emitter with cause 65,535", |sheet, random| {
-        sheet.plan() == 4 && sheet.set_cause(random, is_gross_emitter, 65_535)
+    way(9, "65,535 outside plan 4", |sheet, random| {
+        sheet.plan() != 4 && sheet.set_cause(random, is_engine, PENDING)
     }),
+    way(
+        9,
+        "65,535 of a vehicle that is no gross emitter",
+        |sheet, random| sheet.plan() == 4 && sheet.set_cause(random, is_tame_vehicle, PENDING),
+    ),
     way(
         9,
         "cause of a vehicle that is no gross emitter",
         |sheet, random| {
-            let cause = random.pick(&[1, 256, 65_534, 65_535]);
+            let cause = random.pick(&[1, 256, LARGEST_CAUSE]);
             sheet.plan() == 4 && sheet.set_cause(random, is_tame_vehicle, cause)
         },
     ),

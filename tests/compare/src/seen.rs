@@ -1,12 +1,13 @@
 //! What the compared answers showed in records of one size: every refusal, every verdict with its
 //! ground under every plan that can end so, also on run-in sheets, every pollutant passed and
 //! failed and the only one by which a vehicle is a gross emitter, small engines by each clause of
-//! F-1, run-in values by each of F-2 and at the ends of their range, the longest sheets; and a pair
-//! in every cell of the table of lines. What was never seen was never compared.
+//! F-1, run-in values by each of F-2 and at the ends of their range, pending vehicles by each of F-5
+//! and every row held, the longest sheets; and a pair in every cell of the table of lines. What was
+//! never seen was never compared.
 
 use crate::cases::{Answer, Case};
-use crate::clauses::{has, last_days, run_in_ends, Accepted, Clause, Refused};
-use crate::clauses::{CLAUSES, ENDS, PLACES_OF_ENDS};
+use crate::clauses::{has, last_days, run_in_ends, Accepted, Clause, InService, Refused};
+use crate::clauses::{CLAUSES, ENDS, OF_PENDING, PLACES_OF_ENDS};
 use crate::corpus::{Exact, LineSeries, EXACT_IN_CELL};
 use crate::draft::{plans_of_production, RUN_IN, SMALL_ENGINE};
 use crate::exact::{has_series_on_line, Stand};
@@ -18,19 +19,27 @@ use second::{check, Document, Document01, Series, PLANS, UNKNOWN_DEVIATION};
 use std::fmt;
 
 /// Verdict and ground as they go together.
-const ENDINGS: [(u8, u8, &str); 6] = [
+const ENDINGS: [(u8, u8, &str); 7] = [
     (0, 0, "another"),
     (1, 1, "pass by a row"),
     (2, 1, "fail by a row"),
     (2, 2, "fail by equal cause"),
     (2, 3, "fail by a stop"),
     (3, 4, "referred"),
+    (4, 5, "held"),
 ];
 
-/// Equal cause and referral are plan 4's, which has no stop.
+/// As one of these.
+pub fn ending_name(verdict: u8, ground: u8) -> &'static str {
+    let mut endings = ENDINGS.into_iter();
+    let ending = endings.find(|ending| (ending.0, ending.1) == (verdict, ground));
+    ending.map_or("no ending", |(_, _, name)| name)
+}
+
+/// Equal cause, referral and pending vehicles are plan 4's, which has no stop.
 fn can_end(plan: u8, ground: u8) -> bool {
     match ground {
-        2 | 4 => plan == 4,
+        2 | 4 | 5 => plan == 4,
         3 => plan != 4,
         _ => true,
     }
@@ -54,6 +63,8 @@ enum Kind {
     GrossEmitterBy {
         pollutant: usize,
     },
+    HeldAt(usize),
+    OfPending(&'static str),
     /// With the limit of particulates, if they are declared.
     SmallEngine {
         plan: u8,
@@ -93,9 +104,7 @@ impl fmt::Display for Kind {
                 verdict,
                 ground,
             } => {
-                let mut endings = ENDINGS.into_iter();
-                let ending = endings.find(|ending| (ending.0, ending.1) == (verdict, ground));
-                let name = ending.map_or("no ending", |ending| ending.2);
+                let name = ending_name(verdict, ground);
                 write!(formatter, "plan {plan}, {}{name}", sheet(run_in))
             }
             Kind::Decision {
@@ -109,6 +118,8 @@ impl fmt::Display for Kind {
             Kind::GrossEmitterBy { pollutant } => {
                 write!(formatter, "gross emitter by pollutant {pollutant} alone")
             }
+            Kind::HeldAt(row) => write!(formatter, "held in row {row}"),
+            Kind::OfPending(name) => write!(formatter, "{name}"),
             Kind::SmallEngine { plan, limit } => {
                 write!(formatter, "plan {plan}, small engine, ")?;
                 match limit {
@@ -167,6 +178,8 @@ fn demanded(size: usize) -> Vec<Kind> {
         }
         kinds.push(Kind::GrossEmitterBy { pollutant });
     }
+    kinds.extend((3..=Document01.last_row(4)).map(Kind::HeldAt));
+    kinds.extend(OF_PENDING.map(|(name, _)| Kind::OfPending(name)));
     for plan in plans_of_production() {
         let limits = [None, Some(150), Some(250)];
         kinds.extend(limits.map(|limit| Kind::SmallEngine { plan, limit }));
@@ -277,6 +290,7 @@ impl Seen {
         if sheet[2] == 4 {
             let series = check(&Document01, size, sheet).expect("an accepted sheet");
             self.note_gross_emitters(&series);
+            self.note_pending(&InService::new(size, sheet, report));
         }
     }
 
@@ -311,6 +325,14 @@ impl Seen {
                 self.0.count(Kind::GrossEmitterBy { pollutant });
             }
         }
+    }
+
+    fn note_pending(&mut self, sheet: &InService) {
+        if let Some(row) = sheet.held_row() {
+            self.0.count(Kind::HeldAt(row));
+        }
+        let shown = OF_PENDING.iter().filter(|(_, shows)| shows(sheet));
+        shown.for_each(|(name, _)| self.0.count(Kind::OfPending(name)));
     }
 
     pub fn print(&self, size: usize, tally: &mut Tally) {

@@ -1,7 +1,7 @@
 //! What a corpus of chosen and random sheets leaves out: every logarithm, on run-in sheets too, and
 //! every cause, each through report, with the report that has to be written.
 
-use crate::draft::{Draft, Measurements, Pollutant, LARGEST};
+use crate::draft::{Draft, Measurements, Pollutant, LARGEST, PENDING};
 use crate::paper::{Cell, Chosen, Line, Paper, Report};
 use second::{Decision, Document, Document01, LONGEST_REPORT, MOST_POLLUTANTS};
 use std::ops::RangeInclusive;
@@ -252,6 +252,7 @@ fn neighbour(m: u32) -> u32 {
 
 const ANOTHER_AT_3: Report = report_at_3(0, 0);
 const EQUAL_CAUSE_AT_3: Report = report_at_3(2, 2);
+const HELD_AT_3: Report = report_at_3(4, 5);
 
 /// Every pollutant open.
 const fn report_at_3(verdict: u8, ground: u8) -> Report {
@@ -281,19 +282,23 @@ fn decided_at_3(decisions: impl Iterator<Item = Decision> + Clone) -> Report {
 }
 
 /// Every cause, or one of `step`, twice among three vehicles, which fails them, and beside each
-/// cause that differs from it in one bit, which leaves row 3 open.
+/// cause that differs from it in one bit, which leaves row 3 open. F-5: the last of them is none
+/// that is known, and holds the series, twice too.
 pub fn cause_sheets(size: usize, step: usize) -> impl Iterator<Item = Chosen> {
-    let causes = (1..=LARGEST_CAUSE).step_by(step);
+    let causes = (1..=PENDING).step_by(step);
     causes.flat_map(move |cause| {
         let others = (0..16).map(move |bit| cause ^ 1 << bit);
-        let others = others.filter(|other| (1..=LARGEST_CAUSE).contains(other));
-        let open = others.map(move |other| vehicles(size, [cause, other], ANOTHER_AT_3));
-        let equal = std::iter::once_with(move || vehicles(size, [cause; 2], EQUAL_CAUSE_AT_3));
-        equal.chain(open)
+        let others = others.chain([cause]).filter(|&other| other != 0);
+        others.map(move |other| {
+            let report = match [cause, other] {
+                causes if causes.contains(&PENDING) => HELD_AT_3,
+                [one, other] if one == other => EQUAL_CAUSE_AT_3,
+                _ => ANOTHER_AT_3,
+            };
+            vehicles(size, [cause, other], report)
+        })
     })
 }
-
-const LARGEST_CAUSE: u16 = 65_534;
 
 /// Two gross emitters by the last pollutant, and a third vehicle, which has each place in turn.
 fn vehicles(size: usize, causes: [u16; 2], report: Report) -> Chosen {

@@ -37,6 +37,13 @@ extern "C" {
         output: *mut u8,
         output_length: usize,
     ) -> u32;
+    pub fn conformity_finding(
+        size: usize,
+        sheet: *mut u8,
+        sheet_length: usize,
+        engine: u32,
+        finding: u32,
+    ) -> u32;
     pub fn conformity_declared(
         declared: u32,
         tests: *const u32,

@@ -1,8 +1,8 @@
 //! Document 01, "Sequential conformity verdicts", and behind it the requests of document 02 that
 //! landed, sentence by sentence: one small method for each sentence or number that can be misread,
-//! in the documents' order. `check`, `judge`, `operations`, `reader`, `convert` and `declared` put
-//! the sentences together and hold for any document. A `size` is that of a record, in bytes:
-//! "Callers name the size" (F-10).
+//! in the documents' order. `check`, `judge`, `operations`, `reader`, `convert`, `findings` and
+//! `declared` put the sentences together and hold for any document. A `size` is that of a record,
+//! in bytes: "Callers name the size" (F-10).
 
 use crate::check::{number_at, short_at, Record, Refusal, Series};
 use crate::check::{ENGINE, POLLUTANT, RUN_IN, SMALL_ENGINE, STOP};
@@ -22,6 +22,9 @@ impl Document for Document01 {}
 /// "Limits and measurements are whole thousandths of the limit's unit, 1 to 9,999,999", and the
 /// values of F-4 "whole thousandths of g/km, 1 to 9,999,999".
 const LARGEST: u32 = 9_999_999;
+
+/// A gross emitter's "cause is 1 to 65,534", and so is a finding (F-5).
+const LARGEST_CAUSE: u16 = 65_534;
 
 /// "Pollutant number 1 to 4 (carbon monoxide, hydrocarbons, nitrogen oxides, particulates)", counted
 /// from 0.
@@ -231,9 +234,14 @@ pub trait Document {
         plan == 4
     }
 
-    /// A gross emitter's cause "is 1 to 65,534".
+    /// A gross emitter's cause "is 1 to 65,534"; and of F-5: "refusal 9 admits" 65,535 "there".
     fn gross_cause_fits(&self, cause: u16) -> bool {
-        (1..=65_534).contains(&cause)
+        (1..=LARGEST_CAUSE).contains(&cause) || self.is_pending(cause)
+    }
+
+    /// F-5: "Cause 65,535 now marks a gross emitter whose finding is pending".
+    fn is_pending(&self, cause: u16) -> bool {
+        cause == 65_535
     }
 
     /// "Any other vehicle's is 0", as is every cause outside plan 4.
@@ -454,10 +462,13 @@ pub trait Document {
 
     /// Plan 4: "Before a row's statistics, in order: two gross emitters of equal cause among the
     /// first n: the series fails. n = 15 and two or more gross emitters: referred to the
-    /// authority." F-11: "Equal cause and referral come first as before."
+    /// authority." F-11: "Equal cause and referral come first as before." And between the two, of
+    /// F-5: "two equal known causes still fail the series; otherwise the verdict is 4".
     fn before_statistics(&self, n: usize, gross: &GrossEmitters) -> Option<Ending> {
         if gross.equal_cause {
             Some((Verdict::Fail, Ground::EqualCause))
+        } else if self.is_held(n, gross) {
+            Some((Verdict::Held, Ground::Held))
         } else if self.is_referred(n, gross.count) {
             Some((Verdict::Referred, Ground::Referred))
         } else {
@@ -465,9 +476,15 @@ pub trait Document {
         }
     }
 
-    /// "Two gross emitters of equal cause": whether a vehicle's is that of one before it.
+    /// "Two gross emitters of equal cause": whether a vehicle's is that of one before it; and of
+    /// F-5: "two equal known causes", of which a pending finding is none.
     fn is_equal_cause(&self, before: &[u16], cause: u16) -> bool {
-        before.contains(&cause)
+        !self.is_pending(cause) && before.contains(&cause)
+    }
+
+    /// F-5: "At the first row with a pending vehicle among its engines", whichever row that is.
+    fn is_held(&self, _n: usize, gross: &GrossEmitters) -> bool {
+        gross.pending > 0
     }
 
     /// "n = 15 and two or more gross emitters".
@@ -514,15 +531,16 @@ pub trait Document {
         true
     }
 
-    /// "Equal cause, a stop and referral leave open pollutants open."
+    /// "Equal cause, a stop and referral leave open pollutants open"; and of F-5: "open pollutants
+    /// stay open".
     fn left_open(&self, _: Ending, _n: usize) -> (Decision, u8) {
         (Decision::Open, 0)
     }
 
     /// "A stop on an undecided series fails it at the engines tested, also below 3. Otherwise:
     /// another."
-    fn undecided(&self, stopped: bool, _tested: usize) -> Ending {
-        if stopped {
+    fn undecided(&self, series: &Series) -> Ending {
+        if series.stopped {
             (Verdict::Fail, Ground::Stopped)
         } else {
             (Verdict::Another, Ground::None)
@@ -530,8 +548,9 @@ pub trait Document {
     }
 
     /// A series decided at n. "Engines after the decision are checked and counted for nothing",
-    /// and a stop is for an undecided series.
-    fn decided(&self, ending: Ending, n: usize, _: &Series) -> (Ending, usize) {
+    /// and a stop is for an undecided series. Or one held "at that row" (F-5): "Vehicles may be
+    /// appended meanwhile", and are counted for nothing too.
+    fn ended(&self, ending: Ending, n: usize, _: &Series) -> (Ending, usize) {
         (ending, n)
     }
 
@@ -544,11 +563,12 @@ pub trait Document {
     }
 
     /// "Evidence hands back the part of the sheet from its start through the deciding engine's
-    /// record; the whole sheet where undecided, stopped or referred", in records.
+    /// record; the whole sheet where undecided, stopped or referred", in records; and of F-5: "A
+    /// held sheet counts as undecided".
     fn evidence_records(&self, ground: Ground, through_engine: usize, whole: usize) -> usize {
         match ground {
             Ground::Row | Ground::EqualCause => through_engine,
-            Ground::None | Ground::Stopped | Ground::Referred => whole,
+            Ground::None | Ground::Stopped | Ground::Referred | Ground::Held => whole,
         }
     }
 
@@ -587,8 +607,8 @@ pub trait Document {
         SIZES.contains(&size)
     }
 
-    /// "A refusal that names no record, here or later, returns record 0"; and of F-10: "30 to 32
-    /// return record 0".
+    /// "A refusal that names no record, here or later, returns record 0"; of F-5, of 23 and 24:
+    /// "both return record 0"; and of F-10: "30 to 32 return record 0".
     fn refusal_of_no_record(&self, number: u8) -> Refusal {
         Refusal::of_no_record(number)
     }
@@ -896,6 +916,17 @@ pub trait Document {
         FOUR_POLLUTANTS
     }
 
+    /// "Verdict word (another, pass, fail, referred)"; and of F-5: "printed `held`".
+    fn verdict_word(&self, verdict: Verdict) -> &'static str {
+        match verdict {
+            Verdict::Another => "another",
+            Verdict::Pass => "pass",
+            Verdict::Fail => "fail",
+            Verdict::Referred => "referred",
+            Verdict::Held => "held",
+        }
+    }
+
     /// "Line 1: verdict word (another, pass, fail, referred), engine, ground".
     fn first_line(&self, word: &str, engine: u8, ground: Ground) -> String {
         format!("{word} {engine} {}\n", ground as u8)
@@ -984,6 +1015,67 @@ pub trait Document {
     /// "32, converter output too short".
     fn is_too_short(&self, output: usize, carried: usize) -> bool {
         output < carried
+    }
+
+    // ---- The finding (document 02, F-5)
+
+    /// "Turned away: the sheet's own number; then 23, [..]; 24, [..], after 23; both return record
+    /// 0."
+    fn finding_refusal(
+        &self,
+        engine: u32,
+        finding: u32,
+        checked: Result<Series, Refusal>,
+    ) -> Option<Refusal> {
+        let series = match checked {
+            Ok(series) => series,
+            Err(refusal) => return Some(refusal),
+        };
+        if !self.is_pending_at(engine, &series) {
+            Some(self.refusal_of_no_record(23))
+        } else if !self.finding_fits(finding) {
+            Some(self.refusal_of_no_record(24))
+        } else {
+            None
+        }
+    }
+
+    /// "23, no pending vehicle at that engine"; there may be one behind the decision too.
+    fn is_pending_at(&self, engine: u32, series: &Series) -> bool {
+        let place = self.place_of_engine(engine, series.size, series.sheet);
+        let record = place.and_then(|place| series.records().nth(place));
+        record.is_some_and(|record| self.is_pending(self.cause(record)))
+    }
+
+    /// "That engine, counted from 1": the number of its record, which counts from 0.
+    fn place_of_engine(&self, engine: u32, size: usize, sheet: &[u8]) -> Option<usize> {
+        let before = engine.checked_sub(1)? as usize;
+        let records = sheet.chunks_exact(size).enumerate();
+        let mut engines = records.filter(|(_, record)| self.is_engine(record[0]));
+        engines.nth(before).map(|(place, _)| place)
+    }
+
+    /// "24, finding not 1 to 65,534", of all its bits.
+    fn finding_fits(&self, finding: u32) -> bool {
+        (1..=LARGEST_CAUSE.into()).contains(&finding)
+    }
+
+    /// What is turned away writes nothing.
+    fn is_entered(&self, refusal: Option<Refusal>) -> bool {
+        refusal.is_none()
+    }
+
+    /// "Enters the finding" where the sheet has the engine, and nowhere else.
+    fn enter(&self, engine: u32, finding: u32, size: usize, sheet: &mut [u8]) {
+        if let Some(place) = self.place_of_engine(engine, size, sheet) {
+            self.enter_cause(&mut sheet[place * size..][..size], finding);
+        }
+    }
+
+    /// "Changes only that record's two cause bytes": "bytes 2-3 cause", and "numbers are
+    /// little-endian".
+    fn enter_cause(&self, record: &mut Record, finding: u32) {
+        record[2..4].copy_from_slice(&(finding as u16).to_le_bytes());
     }
 
     // ---- Declared carbon dioxide (document 02, F-4)

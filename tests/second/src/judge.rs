@@ -11,6 +11,8 @@ pub enum Verdict {
     Pass = 1,
     Fail = 2,
     Referred = 3,
+    /// F-5: "the verdict is 4, printed `held`".
+    Held = 4,
 }
 
 #[derive(Clone, Copy, Debug, PartialEq, Eq)]
@@ -21,6 +23,8 @@ pub enum Ground {
     EqualCause = 2,
     Stopped = 3,
     Referred = 4,
+    /// F-5: "at that row with ground 5".
+    Held = 5,
 }
 
 #[derive(Clone, Copy, Debug, PartialEq, Eq)]
@@ -40,6 +44,14 @@ pub struct Judgement {
     /// Decision and engine of each pollutant, "0 where the decision is 0", as they are of one that
     /// the size has no place for.
     pub decisions: [(Decision, u8); MOST_POLLUTANTS],
+}
+
+impl Judgement {
+    /// A sheet is "decided if its verdict is then not another"; and of F-5: "A held sheet counts as
+    /// undecided".
+    pub fn is_decided(&self) -> bool {
+        !matches!(self.verdict, Verdict::Another | Verdict::Held)
+    }
 }
 
 /// How a row, a stop or the last engine ends the series.
@@ -102,6 +114,8 @@ pub struct GrossEmitters {
     places: [usize; 15],
     pub count: usize,
     pub equal_cause: bool,
+    /// How many of them have no finding yet.
+    pub pending: usize,
 }
 
 pub fn judge<D: Document + ?Sized>(
@@ -129,11 +143,11 @@ pub(crate) fn walk<D: Document + ?Sized>(document: &D, series: &Series) -> Judge
             continue;
         }
         if let Some(ending) = row(document, series.plan, n, &mut standings, &gross) {
-            let (ending, n) = document.decided(ending, n, series);
+            let (ending, n) = document.ended(ending, n, series);
             return judgement(document, ending, n, &standings);
         }
     }
-    let ending = document.undecided(series.stopped, series.tested);
+    let ending = document.undecided(series);
     judgement(document, ending, series.tested, &standings)
 }
 
@@ -289,6 +303,7 @@ impl GrossEmitters {
             places: [0; 15],
             count: 0,
             equal_cause: false,
+            pending: 0,
         }
     }
 
@@ -297,6 +312,7 @@ impl GrossEmitters {
         let cause = document.cause(vehicle);
         if cause != 0 {
             self.equal_cause |= document.is_equal_cause(&self.causes[..self.count], cause);
+            self.pending += usize::from(document.is_pending(cause));
             self.causes[self.count] = cause;
             self.places[self.count] = n;
             self.count += 1;
@@ -305,6 +321,13 @@ impl GrossEmitters {
 
     /// Whether vehicle n is one, which wrong readings ask for.
     pub fn has(&self, n: usize) -> bool {
-        self.places[..self.count].contains(&n)
+        self.cause_of(n).is_some()
+    }
+
+    /// The cause of vehicle n if it is one, which wrong readings ask for.
+    pub fn cause_of(&self, n: usize) -> Option<u16> {
+        let mut causes = self.places.iter().zip(self.causes).take(self.count);
+        let (_, cause) = causes.find(|(&place, _)| place == n)?;
+        Some(cause)
     }
 }

@@ -2,7 +2,7 @@
 
 use crate::check::{check, Refusal, Series, SIX_POLLUTANTS};
 use crate::document::Document;
-use crate::judge::{judge, walk, Decision, Verdict};
+use crate::judge::{judge, walk, Decision};
 
 /// "Report writes 20 bytes", and F-10's "report is 28 bytes".
 pub const LONGEST_REPORT: usize = 28;
@@ -90,12 +90,7 @@ pub fn lines<D: Document + ?Sized>(document: &D, sheet: &[u8]) -> String {
 
 fn judgement_lines<D: Document + ?Sized>(document: &D, series: &Series) -> String {
     let judgement = walk(document, series);
-    let word = match judgement.verdict {
-        Verdict::Another => "another",
-        Verdict::Pass => "pass",
-        Verdict::Fail => "fail",
-        Verdict::Referred => "referred",
-    };
+    let word = document.verdict_word(judgement.verdict);
     let mut text = document.first_line(word, judgement.engine, judgement.ground);
     for (pollutant, (decision, engine)) in judgement.decisions.into_iter().enumerate() {
         if document.has_line(series.limits[pollutant]) {

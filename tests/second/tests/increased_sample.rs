@@ -2,46 +2,14 @@
 
 mod records;
 
-use records::{engine, pollutant};
-use second::{judge, Decision, Document, Document01, Ground, Verdict, SIZES};
-
-type Answer = (Verdict, u8, Ground, (Decision, u8));
+use records::{another, equal_cause, in_service, referred, Answer, Vehicle};
+use second::{Decision, Ground, Verdict};
 
 const FAIL_AT_4: Answer = (Verdict::Fail, 4, Ground::Row, (Decision::Fail, 4));
 const PASS_AT_4: Answer = (Verdict::Pass, 4, Ground::Row, (Decision::Pass, 4));
 
-fn another(n: u8) -> Answer {
-    (Verdict::Another, n, Ground::None, (Decision::Open, 0))
-}
-
-fn equal_cause(n: u8) -> Answer {
-    (Verdict::Fail, n, Ground::EqualCause, (Decision::Open, 0))
-}
-
-/// Plan 4 and limit 1000: vehicles by measurement and cause, and the answer for each pollutant of
-/// each size.
-fn judged(vehicles: &[(u32, u16)], expected: Answer) {
-    for size in SIZES {
-        for place in 0..Document01.pollutants(size) {
-            let number = place + 1;
-            let mut sheet = pollutant(size, number as u8, 4, 1000, 0);
-            for &(x, cause) in vehicles {
-                sheet.extend(engine(size, cause, &[(number, x)]));
-            }
-            let judgement = judge(&Document01, size, &sheet).expect("an accepted sheet");
-            let decision = judgement.decisions[place];
-            let answer = (
-                judgement.verdict,
-                judgement.engine,
-                judgement.ground,
-                decision,
-            );
-            assert_eq!(
-                answer, expected,
-                "{vehicles:?}, pollutant {number} of {size}"
-            );
-        }
-    }
+fn judged(vehicles: &[Vehicle], expected: Answer) {
+    assert_eq!(in_service(vehicles), expected, "{vehicles:?}");
 }
 
 /// "Another at 4 before" the request, each.
@@ -79,8 +47,7 @@ fn row_15() {
     let pass: Answer = (Verdict::Pass, 15, Ground::Row, (Decision::Pass, 15));
     judged(&vehicles, pass);
     vehicles[7] = (1501, 8);
-    let referred = (Verdict::Referred, 15, Ground::Referred, (Decision::Open, 0));
-    judged(&vehicles, referred);
+    judged(&vehicles, referred(15));
 }
 
 /// "A decided series still keeps its decision when extended", by a vehicle of equal cause too.

@@ -1,5 +1,5 @@
 -- `first_row` meets its contract: in plan 4 by the causes of the first three vehicles, and in the other plans there are none.
-use Rattle.arithmetic.proofs.Basics.{ℕ, _+_, _<_, arith, _≡_, refl, ⊎-elim, false, _||_, cond, needs}
+use Rattle.arithmetic.proofs.Basics.{ℕ, _+_, _<_, arith, _≡_, refl, ⊎-elim, false, not, _||_, cond, eqb, needs}
 use Rattle.accepted.proofs.Sheets.{isInService, caused}
 use Rattle.plan.specs.declared.Plan.{Plan}
 use Rattle.plan.specs.declared.Plan.the-variants.{KnownDeviation, UnknownDeviation, Attributes, InService, Corrected}
@@ -23,10 +23,11 @@ other Corrected h = refl
 vehicle : (c : tie.After-enum-told) (k : ℕ) → k < 3 → let a = c .before .before .before .args in EnginesRange (widthIs (a .size)) (a .bytes .now) (a .start) (k + 1)
 vehicle c k l = let p = c .before .before .before .pre in record { sheet = rw (c .enum-told .given .1) at (p .sheet); some = omega (arith, p .some) }
 
-by-causes : (c : tie.After-emits3) → let a = c .before .before .before .before .before .before .args in
-    cond ((c .before .before .emits .result || c .before .emits2 .result) || c .emits3 .result) 4 3 ≡ firstRow (widthIs (a .size)) (a .bytes .now)
+by-causes : (c : tie.After-cause-at3) → let a = c .before .before .before .before .before .before .args in
+    cond ((not (eqb (c .before .before .cause-at .result) 0) || not (eqb (c .before .cause-at2 .result) 0)) || not (eqb (c .cause-at3 .result) 0)) 4 3
+    ≡ firstRow (widthIs (a .size)) (a .bytes .now)
 by-causes c =
-    rw (c .before .before .emits .ensures, c .before .emits2 .ensures, c .emits3 .ensures)
+    rw (c .before .before .cause-at .ensures, c .before .cause-at2 .ensures, c .cause-at3 .ensures)
     (first-by _ _ (c .before .before .before .before .before .before .pre .some))
 
 -- the plans that are not matched

@@ -1,6 +1,7 @@
 //! Wrong readings of document 02's request F-10 that are seen in what the converter answers.
 
-use super::{wrong, Wrong};
+use super::sizes::{no_sizes_accepted, LengthBeforeSize, RecordOne};
+use super::{is_of_record, wrong, Wrong};
 use crate::check::{check, Record, Refusal, Series};
 use crate::check::{ENGINE, POLLUTANT, RUN_IN, SMALL_ENGINE, STOP};
 use crate::check::{FOUR_POLLUTANTS, SIX_POLLUTANTS};
@@ -20,25 +21,8 @@ pub fn convert() -> Vec<Wrong> {
 
 /// "30, size not 20 or 28", and the other of them for the output.
 fn sizes_named() -> Vec<Wrong> {
-    vec![
-        wrong!(
-            "convert: a size of 24 accepted",
-            fn size_fits(&self, size: usize) -> bool {
-                size == 24 || Document01.size_fits(size)
-            }
-        ),
-        wrong!(
-            "convert: the size taken in one byte",
-            fn size_fits(&self, size: usize) -> bool {
-                Document01.size_fits(size % (1 << 8))
-            }
-        ),
-        wrong!(
-            "convert: the size taken in four bytes",
-            fn size_fits(&self, size: usize) -> bool {
-                Document01.size_fits(size % (1 << 32))
-            }
-        ),
+    let mut all = no_sizes_accepted("convert");
+    all.extend([
         wrong!(
             "convert: the size is that of the output",
             fn convert_refusal(
@@ -77,7 +61,8 @@ fn sizes_named() -> Vec<Wrong> {
                 SIX_POLLUTANTS
             }
         ),
-    ]
+    ]);
+    all
 }
 
 /// "31, narrowing a sheet that declares pollutant 5 or 6".
@@ -189,16 +174,7 @@ fn too_short() -> Vec<Wrong> {
 /// "30, [..] before every other; 31, [..] after the sheet's checks; 32, [..] after 31".
 fn order_of_refusals() -> Vec<Wrong> {
     vec![
-        wrong!(
-            "convert: 1 before 30",
-            fn sheet_fault(&self, size: usize, sheet: &[u8]) -> Option<u8> {
-                if sheet.is_empty() {
-                    Some(1)
-                } else {
-                    Document01.sheet_fault(size, sheet)
-                }
-            }
-        ),
+        Wrong::new("convert: 1 before 30", LengthBeforeSize),
         wrong!(
             "convert: 32 before 30",
             fn convert_refusal(
@@ -274,27 +250,9 @@ fn order_of_refusals() -> Vec<Wrong> {
 /// "30 to 32 return record 0."
 fn records_of_refusals() -> Vec<Wrong> {
     vec![
-        wrong!(
-            "convert: record 1 for refusal 30",
-            fn refusal_of_no_record(&self, number: u8) -> Refusal {
-                let record = u8::from(number == 30);
-                Refusal { number, record }
-            }
-        ),
-        wrong!(
-            "convert: record 1 for refusal 31",
-            fn refusal_of_no_record(&self, number: u8) -> Refusal {
-                let record = u8::from(number == 31);
-                Refusal { number, record }
-            }
-        ),
-        wrong!(
-            "convert: record 1 for refusal 32",
-            fn refusal_of_no_record(&self, number: u8) -> Refusal {
-                let record = u8::from(number == 32);
-                Refusal { number, record }
-            }
-        ),
+        Wrong::new("convert: record 1 for refusal 30", RecordOne(30)),
+        Wrong::new("convert: record 1 for refusal 31", RecordOne(31)),
+        Wrong::new("convert: record 1 for refusal 32", RecordOne(32)),
         wrong!(
             "convert: a sheet's own refusal with record 0",
             fn convert_refusal(
@@ -497,6 +455,12 @@ fn sheets_carried() -> Vec<Wrong> {
             }
         ),
         wrong!(
+            "convert: 9 for a pending vehicle, as before F-5",
+            fn gross_cause_fits(&self, cause: u16) -> bool {
+                !self.is_pending(cause) && Document01.gross_cause_fits(cause)
+            }
+        ),
+        wrong!(
             "convert: 38 records at most, 40 of 28 bytes",
             fn most_records(&self, size: usize) -> usize {
                 Document01.most_records(size) - 1
@@ -568,9 +532,4 @@ fn written() -> Vec<Wrong> {
             }
         ),
     ]
-}
-
-/// The refusals that name a record.
-fn is_of_record(refusal: Refusal) -> bool {
-    matches!(refusal.number, 2..=12 | 16..=19)
 }

@@ -1,7 +1,7 @@
 //! Wrong readings of one number among many alike: the printed decision numbers, W in one row, the
 //! logarithm of one m, and the equality of causes.
 
-use super::{wrong, Family, Wrong};
+use super::{Family, Wrong};
 use crate::document::{Document, Document01, PLANS, UNKNOWN_DEVIATION};
 use crate::judge::Row;
 use crate::tables::Column;
@@ -55,7 +55,7 @@ struct CauseIgnored(u16);
 
 impl Document for CauseIgnored {
     fn is_equal_cause(&self, before: &[u16], cause: u16) -> bool {
-        cause != self.0 && before.contains(&cause)
+        cause != self.0 && Document01.is_equal_cause(before, cause)
     }
 }
 
@@ -126,23 +126,23 @@ pub fn logarithms() -> Vec<(u32, Wrong)> {
     all
 }
 
+/// Two known causes count as equal if these of their bytes are.
+struct CausesAlike(fn(u16) -> u16);
+
+impl Document for CausesAlike {
+    fn is_equal_cause(&self, before: &[u16], cause: u16) -> bool {
+        let mut known = before.iter().filter(|&&other| !self.is_pending(other));
+        !self.is_pending(cause) && known.any(|&other| (self.0)(other) == (self.0)(cause))
+    }
+}
+
 /// The equality of causes, which have two bytes.
 pub fn causes() -> Vec<Family> {
     let ignored = [1, 7, 254, 255, 256, 257, 300, 511, 32_768, 65_279, 65_534]
         .map(|cause| Wrong::new(format!("cause {cause}"), CauseIgnored(cause)));
     let one_byte = [
-        wrong!(
-            "low bytes",
-            fn is_equal_cause(&self, before: &[u16], cause: u16) -> bool {
-                before.iter().any(|other| other % 256 == cause % 256)
-            }
-        ),
-        wrong!(
-            "high bytes",
-            fn is_equal_cause(&self, before: &[u16], cause: u16) -> bool {
-                before.iter().any(|other| other / 256 == cause / 256)
-            }
-        ),
+        Wrong::new("low bytes", CausesAlike(|cause| cause % 256)),
+        Wrong::new("high bytes", CausesAlike(|cause| cause / 256)),
     ];
     vec![
         Family::new("equality of one cause ignored".to_string(), 4, ignored),

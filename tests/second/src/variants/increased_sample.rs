@@ -3,7 +3,7 @@
 
 use super::{by_rule, wrong, Wrong};
 use crate::document::{Document, Document01};
-use crate::judge::{Ending, GrossEmitters};
+use crate::judge::{Ending, GrossEmitters, Ground};
 
 /// Row n is left open by this rule.
 struct LeftOpen(fn(usize, &GrossEmitters) -> bool);
@@ -69,7 +69,8 @@ pub fn increased_sample() -> Vec<Wrong> {
         "plan 4: a row that is left open does not fail for equal cause",
         fn before_statistics(&self, n: usize, gross: &GrossEmitters) -> Option<Ending> {
             let before = Document01.before_statistics(n, gross);
-            before.filter(|_| !self.is_left_open(n, gross))
+            before
+                .filter(|(_, ground)| *ground != Ground::EqualCause || !self.is_left_open(n, gross))
         }
     ));
     all

@@ -15,6 +15,7 @@ mod before_f_9;
 mod convert;
 mod declared;
 mod families;
+mod findings;
 mod increased_sample;
 mod new_kind;
 mod probe;
@@ -23,6 +24,7 @@ mod run_in;
 mod sizes;
 mod small_engine;
 
+use crate::check::Refusal;
 use crate::document::Document;
 use before_f_9::OldUnits;
 use families::Number;
@@ -31,6 +33,7 @@ pub use before_f_9::{sixteen_steps_under_one_plan, SixteenSteps};
 pub use convert::convert;
 pub use declared::declared;
 pub use families::{causes, decision_numbers, logarithms, variances};
+pub use findings::{finding, finding_by_size, held};
 pub use probe::{brackets, brackets_of_few, logarithm};
 pub use probe::{evidence, evidence_by_size, lines, reader, reader_by_size};
 pub use report::report_and_append;
@@ -61,6 +64,11 @@ fn by_rule<R, D: Document + 'static, const N: usize>(
 ) -> Vec<Wrong> {
     let wrong = |(what, rule)| Wrong::new(format!("{about}: {what}"), reading(rule));
     rules.map(wrong).into()
+}
+
+/// The refusals that name a record.
+fn is_of_record(refusal: Refusal) -> bool {
+    matches!(refusal.number, 2..=12 | 16..=19)
 }
 
 /// Wrong readings of the same kind, all of one plan.

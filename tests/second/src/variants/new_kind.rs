@@ -272,7 +272,7 @@ impl Document for AnEngine {
 struct CountedWith(NewKind);
 
 impl Document for CountedWith {
-    fn decided(&self, ending: Ending, n: usize, series: &Series) -> (Ending, usize) {
+    fn ended(&self, ending: Ending, n: usize, series: &Series) -> (Ending, usize) {
         (ending, n + (self.0.count)(series))
     }
 }

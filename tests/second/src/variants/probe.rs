@@ -2,11 +2,12 @@
 //! bracket, in what evidence hands back, in the printed lines, and in a sheet under reading.
 
 use super::families::GOff;
+use super::sizes::{LengthBeforeSize, RecordOne};
 use super::{run_in, small_engine, wrong, OldUnits, SixteenSteps, Wrong};
 use crate::check::{number_at, Record, Refusal, Series};
 use crate::check::{FOUR_POLLUTANTS, RUN_IN, SIX_POLLUTANTS, SMALL_ENGINE};
 use crate::document::{Document, Document01};
-use crate::judge::Ground;
+use crate::judge::{Ground, Verdict};
 use std::borrow::Cow;
 
 pub fn logarithm() -> Vec<Wrong> {
@@ -26,6 +27,26 @@ pub fn logarithm() -> Vec<Wrong> {
     ]
 }
 
+/// On this ground evidence has so many records, of those through the engine.
+struct Part {
+    ground: Ground,
+    records: fn(usize) -> usize,
+}
+
+impl Document for Part {
+    fn evidence_records(&self, ground: Ground, through_engine: usize, whole: usize) -> usize {
+        if ground == self.ground {
+            (self.records)(through_engine)
+        } else {
+            Document01.evidence_records(ground, through_engine, whole)
+        }
+    }
+}
+
+fn part(description: &str, ground: Ground, records: fn(usize) -> usize) -> Wrong {
+    Wrong::new(description, Part { ground, records })
+}
+
 pub fn evidence() -> Vec<Wrong> {
     vec![
         wrong!(
@@ -34,34 +55,27 @@ pub fn evidence() -> Vec<Wrong> {
                 whole
             }
         ),
-        wrong!(
+        part(
             "evidence: a stopped sheet without its stop",
-            fn evidence_records(
-                &self,
-                ground: Ground,
-                through_engine: usize,
-                whole: usize,
-            ) -> usize {
-                match ground {
-                    Ground::Stopped => through_engine,
-                    _ => Document01.evidence_records(ground, through_engine, whole),
-                }
-            }
+            Ground::Stopped,
+            |through_engine| through_engine,
         ),
-        wrong!(
+        part(
             "evidence: without the deciding engine's record",
-            fn evidence_records(
-                &self,
-                ground: Ground,
-                through_engine: usize,
-                whole: usize,
-            ) -> usize {
-                match ground {
-                    Ground::Row => through_engine - 1,
-                    _ => Document01.evidence_records(ground, through_engine, whole),
-                }
-            }
+            Ground::Row,
+            |through_engine| through_engine - 1,
         ),
+        part(
+            "evidence: a held sheet through the row at which it is held",
+            Ground::Held,
+            |through_engine| through_engine,
+        ),
+        part(
+            "evidence: a held sheet as far as the vehicles before that row",
+            Ground::Held,
+            |through_engine| through_engine - 1,
+        ),
+        part("evidence: nothing of a held sheet", Ground::Held, |_| 0),
         wrong!(
             "evidence: the small engine's record not counted",
             fn records_through(&self, engine: u8, series: &Series) -> usize {
@@ -120,8 +134,32 @@ pub fn evidence() -> Vec<Wrong> {
     ]
 }
 
+/// Another word for this verdict.
+struct Word(Verdict, &'static str);
+
+impl Document for Word {
+    fn verdict_word(&self, verdict: Verdict) -> &'static str {
+        match verdict {
+            verdict if verdict == self.0 => self.1,
+            _ => Document01.verdict_word(verdict),
+        }
+    }
+}
+
 pub fn lines() -> Vec<Wrong> {
     vec![
+        Wrong::new(
+            "lines: a held sheet as undecided, another",
+            Word(Verdict::Held, "another"),
+        ),
+        Wrong::new(
+            "lines: a held sheet as referred",
+            Word(Verdict::Held, "referred"),
+        ),
+        Wrong::new(
+            "lines: a held sheet as pending",
+            Word(Verdict::Held, "pending"),
+        ),
         wrong!(
             "lines: a line for each undeclared pollutant too",
             fn has_line(&self, _: u32) -> bool {
@@ -304,16 +342,7 @@ pub fn evidence_by_size() -> Vec<Wrong> {
                 records * FOUR_POLLUTANTS
             }
         ),
-        wrong!(
-            "evidence: 1 before 30",
-            fn sheet_fault(&self, size: usize, sheet: &[u8]) -> Option<u8> {
-                if sheet.is_empty() {
-                    Some(1)
-                } else {
-                    Document01.sheet_fault(size, sheet)
-                }
-            }
-        ),
+        Wrong::new("evidence: 1 before 30", LengthBeforeSize),
         wrong!(
             "evidence: a size of 24 accepted",
             fn sheet_fault(&self, size: usize, sheet: &[u8]) -> Option<u8> {
@@ -323,13 +352,7 @@ pub fn evidence_by_size() -> Vec<Wrong> {
                 }
             }
         ),
-        wrong!(
-            "evidence: record 1 for refusal 30",
-            fn refusal_of_no_record(&self, number: u8) -> Refusal {
-                let record = u8::from(number == 30);
-                Refusal { number, record }
-            }
-        ),
+        Wrong::new("evidence: record 1 for refusal 30", RecordOne(30)),
     ]
 }
 

@@ -74,7 +74,7 @@ fn logarithm_and_rows() -> Vec<Wrong> {
         ),
         wrong!(
             "a decided series is given all its engines",
-            fn decided(&self, ending: Ending, _: usize, series: &Series) -> (Ending, usize) {
+            fn ended(&self, ending: Ending, _: usize, series: &Series) -> (Ending, usize) {
                 (ending, series.tested)
             }
         ),
@@ -276,6 +276,22 @@ fn plan_3() -> Vec<Wrong> {
     ]
 }
 
+/// What ends the series on this ground comes after the row's statistics.
+pub struct AfterStatistics(pub Ground);
+
+impl Document for AfterStatistics {
+    fn row_ending(
+        &self,
+        before: Option<Ending>,
+        statistics: &mut dyn FnMut() -> Option<Ending>,
+    ) -> Option<Ending> {
+        match before {
+            Some((_, ground)) if ground == self.0 => statistics().or(before),
+            _ => Document01.row_ending(before, statistics),
+        }
+    }
+}
+
 fn plan_4() -> Vec<Wrong> {
     vec![
         Wrong::new(
@@ -302,9 +318,12 @@ fn plan_4() -> Vec<Wrong> {
         wrong!(
             "plan 4: referral tested before equal cause",
             fn before_statistics(&self, n: usize, gross: &GrossEmitters) -> Option<Ending> {
-                let referred = self.is_referred(n, gross.count);
-                let referral = referred.then_some((Verdict::Referred, Ground::Referred));
-                referral.or(Document01.before_statistics(n, gross))
+                match Document01.before_statistics(n, gross) {
+                    Some((_, Ground::EqualCause)) if self.is_referred(n, gross.count) => {
+                        Some((Verdict::Referred, Ground::Referred))
+                    }
+                    before => before,
+                }
             }
         ),
         wrong!(
@@ -313,20 +332,15 @@ fn plan_4() -> Vec<Wrong> {
                 n == 15 && gross >= 1
             }
         ),
-        wrong!(
+        Wrong::new(
             "plan 4: equal cause tested after the statistics",
-            fn row_ending(
-                &self,
-                before: Option<Ending>,
-                statistics: &mut dyn FnMut() -> Option<Ending>,
-            ) -> Option<Ending> {
-                statistics().or(before)
-            }
+            AfterStatistics(Ground::EqualCause),
         ),
         wrong!(
             "plan 4: cause compared with the last gross emitter's only",
             fn is_equal_cause(&self, before: &[u16], cause: u16) -> bool {
-                before.last() == Some(&cause)
+                let last = before.len().saturating_sub(1);
+                Document01.is_equal_cause(&before[last..], cause)
             }
         ),
         wrong!(
@@ -459,13 +473,14 @@ fn stops() -> Vec<Wrong> {
     vec![
         wrong!(
             "a stop below 3 engines is ignored",
-            fn undecided(&self, stopped: bool, tested: usize) -> Ending {
-                Document01.undecided(stopped && tested >= 3, tested)
+            fn undecided(&self, series: &Series) -> Ending {
+                let stopped = series.stopped && series.tested >= 3;
+                Document01.undecided(&Series { stopped, ..*series })
             }
         ),
         wrong!(
             "a stop fails a decided series",
-            fn decided(&self, ending: Ending, n: usize, series: &Series) -> (Ending, usize) {
+            fn ended(&self, ending: Ending, n: usize, series: &Series) -> (Ending, usize) {
                 if series.stopped {
                     ((Verdict::Fail, Ground::Stopped), n)
                 } else {
@@ -579,12 +594,6 @@ fn refusals() -> Vec<Wrong> {
                 } else {
                     Document01.engine_fault(record, so_far)
                 }
-            }
-        ),
-        wrong!(
-            "refusal 9: cause 65,535 accepted",
-            fn gross_cause_fits(&self, cause: u16) -> bool {
-                cause != 0
             }
         ),
         wrong!(

@@ -1,7 +1,7 @@
 //! Wrong readings of document 02's request F-10, six pollutants, that are seen in what report and
 //! append answer. Each is seen at one size, or at a size that is none.
 
-use super::{wrong, Wrong};
+use super::{by_rule, wrong, Wrong};
 use crate::check::{number_at, Record, Refusal, Series, FOUR_POLLUTANTS, SIX_POLLUTANTS, SIZES};
 use crate::document::{Document, Document01};
 use crate::judge::{Judgement, RunIn};
@@ -18,47 +18,72 @@ pub fn sizes() -> Vec<Wrong> {
     all
 }
 
+/// These sizes are taken for sizes of a record.
+struct SizeFits(fn(usize) -> bool);
+
+impl Document for SizeFits {
+    fn size_fits(&self, size: usize) -> bool {
+        (self.0)(size)
+    }
+}
+
 /// "30, size not 20 or 28".
 fn sizes_named() -> Vec<Wrong> {
-    vec![
-        wrong!(
-            "refusal 30: a size of 24 accepted",
-            fn size_fits(&self, size: usize) -> bool {
-                size == 24 || Document01.size_fits(size)
-            }
-        ),
-        wrong!(
-            "refusal 30: sizes from 20 to 28 accepted",
-            fn size_fits(&self, size: usize) -> bool {
+    let mut all = no_sizes_accepted("refusal 30");
+    all.extend(by_rule(
+        SizeFits,
+        "refusal 30",
+        [
+            ("sizes from 20 to 28 accepted", |size| {
                 (FOUR_POLLUTANTS..=SIX_POLLUTANTS).contains(&size)
-            }
-        ),
-        wrong!(
-            "refusal 30: the size taken in one byte",
-            fn size_fits(&self, size: usize) -> bool {
+            }),
+            ("28 refused", |size| size == FOUR_POLLUTANTS),
+        ],
+    ));
+    all.push(Wrong::new("refusal 30: record 1", RecordOne(30)));
+    all
+}
+
+/// Sizes that are none, accepted by every operation to which callers name the size.
+pub fn no_sizes_accepted(about: &str) -> Vec<Wrong> {
+    by_rule(
+        SizeFits,
+        about,
+        [
+            ("a size of 24 accepted", |size| {
+                size == 24 || Document01.size_fits(size)
+            }),
+            ("the size taken in one byte", |size| {
                 Document01.size_fits(size % (1 << 8))
-            }
-        ),
-        wrong!(
-            "refusal 30: the size taken in four bytes",
-            fn size_fits(&self, size: usize) -> bool {
+            }),
+            ("the size taken in four bytes", |size| {
                 Document01.size_fits(size % (1 << 32))
-            }
-        ),
-        wrong!(
-            "refusal 30: 28 refused",
-            fn size_fits(&self, size: usize) -> bool {
-                size == FOUR_POLLUTANTS
-            }
-        ),
-        wrong!(
-            "refusal 30: record 1",
-            fn refusal_of_no_record(&self, number: u8) -> Refusal {
-                let record = u8::from(number == 30);
-                Refusal { number, record }
-            }
-        ),
-    ]
+            }),
+        ],
+    )
+}
+
+/// This refusal names record 1, where it should name none.
+pub struct RecordOne(pub u8);
+
+impl Document for RecordOne {
+    fn refusal_of_no_record(&self, number: u8) -> Refusal {
+        let record = u8::from(number == self.0);
+        Refusal { number, record }
+    }
+}
+
+/// Of no bytes, 1 comes before 30.
+pub struct LengthBeforeSize;
+
+impl Document for LengthBeforeSize {
+    fn sheet_fault(&self, size: usize, sheet: &[u8]) -> Option<u8> {
+        if sheet.is_empty() {
+            Some(1)
+        } else {
+            Document01.sheet_fault(size, sheet)
+        }
+    }
 }
 
 /// "30, [..] before every other".

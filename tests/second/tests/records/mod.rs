@@ -2,7 +2,8 @@
 
 #![allow(dead_code)]
 
-use second::{append, judge, Document, Document01, Judgement, Refusal, SIZES};
+use second::{append, judge, Document, Document01, SIZES};
+use second::{Decision, Ground, Judgement, Refusal, Verdict};
 
 /// What memory holds before a call.
 pub const UNWRITTEN: u8 = 0xA5;
@@ -93,6 +94,67 @@ pub fn judged(document: &impl Document, sheets: &Sheets) -> Result<Judgement, Re
     let [four, six] = [0, 1].map(|place| judge(document, SIZES[place], &sheets[place]));
     assert_eq!(four, six);
     four
+}
+
+/// Verdict, engine and ground, and the decision on the only pollutant.
+pub type Answer = (Verdict, u8, Ground, (Decision, u8));
+
+/// An answer with the pollutant open.
+fn open(verdict: Verdict, n: u8, ground: Ground) -> Answer {
+    (verdict, n, ground, (Decision::Open, 0))
+}
+
+pub fn another(n: u8) -> Answer {
+    open(Verdict::Another, n, Ground::None)
+}
+
+pub fn equal_cause(n: u8) -> Answer {
+    open(Verdict::Fail, n, Ground::EqualCause)
+}
+
+pub fn referred(n: u8) -> Answer {
+    open(Verdict::Referred, n, Ground::Referred)
+}
+
+pub fn held(n: u8) -> Answer {
+    open(Verdict::Held, n, Ground::Held)
+}
+
+/// A vehicle of plan 4, by what it measured and its cause.
+pub type Vehicle = (u32, u16);
+
+/// Plan 4, and one pollutant with the limit 1000.
+pub fn vehicles_of(size: usize, number: usize, vehicles: &[Vehicle]) -> Vec<u8> {
+    let mut sheet = pollutant(size, number as u8, 4, 1000, 0);
+    for &(x, cause) in vehicles {
+        sheet.extend(engine(size, cause, &[(number, x)]));
+    }
+    sheet
+}
+
+/// The answer to such a sheet, the same for each pollutant of each size.
+pub fn in_service(vehicles: &[Vehicle]) -> Answer {
+    let mut answers = Vec::new();
+    for size in SIZES {
+        for number in 1..=Document01.pollutants(size) {
+            let sheet = vehicles_of(size, number, vehicles);
+            let judgement = judge(&Document01, size, &sheet).expect("an accepted sheet");
+            answers.push(answer(&judgement, number));
+        }
+    }
+    answers.dedup();
+    assert_eq!(answers.len(), 1, "{vehicles:?}");
+    answers[0]
+}
+
+fn answer(judgement: &Judgement, number: usize) -> Answer {
+    let Judgement {
+        verdict,
+        engine,
+        ground,
+        decisions,
+    } = *judgement;
+    (verdict, engine, ground, decisions[number - 1])
 }
 
 /// One record of each kind. Pollutant 1 has the limit 200, and all that is measured is 200.

@@ -1,6 +1,6 @@
 //! Report and append of the delivered library.
 
-use compare::cases::Operations;
+use compare::cases::{Operations, Reporter};
 use compare::memory::Empty;
 use entries::{conformity_append, conformity_append_sized};
 use entries::{conformity_report, conformity_report_sized};
@@ -41,7 +41,7 @@ impl Library {
 
 // SAFETY of the calls: every pointer is that of a slice, and its length goes with it; or it is
 // NULL, and its length is 0.
-impl Operations for Library {
+impl Reporter for Library {
     fn report(&self, size: usize, sheet: &[u8], output: &mut [u8]) -> u32 {
         let (sheet, sheet_length) = (self.empty.place(sheet), sheet.len());
         let (place, length) = (self.empty.place_mut(output), output.len());
@@ -52,7 +52,9 @@ impl Operations for Library {
             unsafe { conformity_report(sheet, sheet_length, place, length) }
         }
     }
+}
 
+impl Operations for Library {
     fn append(&self, size: usize, buffer: &mut [u8], used: usize, record: &[u8]) -> u32 {
         let (place, length) = (self.empty.place_mut(buffer), buffer.len());
         let (record, record_length) = (self.empty.place(record), record.len());

@@ -4,7 +4,7 @@ mod library;
 mod mutants;
 
 use compare::cases::{reported, visit_cases, visit_empty, visit_no_sizes};
-use compare::cases::{Lengths, Operations, Second, NO_SIZES};
+use compare::cases::{Lengths, Reporter, Second, NO_SIZES};
 use compare::corpus::{Corpus, LineSeries, Origin, Scale, FULL, QUICK};
 use compare::draft::LARGEST;
 use compare::memory::{Boxes, Edge, Pages};
@@ -48,7 +48,7 @@ fn compare(scale: Scale, step: usize) -> ExitCode {
         sweep_run_in(&series.paper, size, step, &mut tally);
         sweep_causes(size, step, &mut tally);
         sweep_small_engines(size, step, &mut tally);
-        promises::keep(size, scale.promises, &mut tally);
+        promises::keep(size, scale, &mut tally);
     }
     print_pairs(&series, &mut tally);
     if scale.exact {
@@ -148,9 +148,9 @@ fn compare_chosen(corpus: &Corpus, tally: &mut Tally) {
         compare_asked(size, chosen, &origin.to_string(), tally);
     }
     for (_, [one, other]) in &corpus.pairs {
-        for operations in [&LIBRARY as &dyn Operations, &SECOND] {
+        for reporter in [&LIBRARY as &dyn Reporter, &SECOND] {
             let [one_report, other_report] =
-                [one, other].map(|chosen| reported(operations, size, &chosen.sheet));
+                [one, other].map(|chosen| reported(reporter, size, &chosen.sheet));
             let parted = one_report != other_report;
             tally.expect(parted, &one.sheet, "the sheets of a pair are parted");
         }
@@ -164,7 +164,7 @@ fn compare_asked(size: usize, chosen: &Chosen, origin: &str, tally: &mut Tally) 
         reported: asked,
     } = chosen;
     let [library, second] =
-        [&LIBRARY as &dyn Operations, &SECOND].map(|operations| reported(operations, size, sheet));
+        [&LIBRARY as &dyn Reporter, &SECOND].map(|reporter| reported(reporter, size, sheet));
     let against_second = || format!("report by {size}, {origin}");
     tally.compare(sheet, against_second, library, second);
     let against_asked = || format!("report by {size} and the one asked for (as second), {origin}");
@@ -245,7 +245,7 @@ fn sweep_causes(size: usize, step: usize, tally: &mut Tally) {
         sheets += 1;
         compare_asked(size, &chosen, "the sweep of causes", tally);
     }
-    println!("{sheets} sheets: reports with equal causes, and with causes that differ in one bit");
+    println!("{sheets} sheets: reports with every cause twice, and beside those of other bits");
 }
 
 fn sweep_small_engines(size: usize, step: usize, tally: &mut Tally) {

@@ -4,11 +4,11 @@ use crate::lengths;
 use crate::library::LIBRARY;
 use compare::cases::{reported, visit_cases, visit_no_sizes, Case, Second};
 use compare::clauses::has;
-use compare::corpus::{Corpus, LineSeries, Scale, FULL};
+use compare::corpus::{Corpus, LineSeries, Origin, Scale, FULL};
 use compare::draft::RUN_IN;
 use compare::memory::{Boxes, Edge};
 use compare::paper::{Chosen, Paper};
-use compare::program::Mutants;
+use compare::program::{First, Mutants};
 use compare::small_engines::{date_sheets, volume_and_speed_sheets};
 use compare::sweeps::{cause_sheets, logarithm_trials, logarithm_trials_with};
 use compare::sweeps::{LogarithmTrial, Sweep};
@@ -44,6 +44,11 @@ pub fn catch() -> ExitCode {
     for wrong in variants::run_in() {
         let reading = wrong.reading.as_ref();
         let caught_by = corpora.each_ref().map(|corpus| in_corpus(corpus, reading));
+        mutants.note_both(&wrong, caught_by);
+    }
+    for wrong in variants::held() {
+        let reading = wrong.reading.as_ref();
+        let caught_by = corpora.each_ref().map(|corpus| in_pending(corpus, reading));
         mutants.note_both(&wrong, caught_by);
     }
     for wrong in variants::sizes() {
@@ -98,32 +103,22 @@ fn caught_by(corpus: &Corpus, paper: &Paper, wrong: &dyn Document) -> Option<Str
 fn in_corpus(corpus: &Corpus, wrong: &dyn Document) -> Option<String> {
     let mut random = Random::new(0xA11);
     let mut sheets = 0;
-    let mut caught_by = None;
+    let mut first = First::default();
     let _ = corpus.visit(&mut |origin, sheet| {
         sheets += 1;
         let lengths = lengths(origin, sheets);
         visit_cases(corpus.size, sheet, lengths, &mut random, &mut |case| {
-            if alike(case, wrong) {
-                return ControlFlow::Continue(());
-            }
-            caught_by = Some(format!("{} ({origin})", name(case)));
-            ControlFlow::Break(())
+            first.note(alike(case, wrong), || format!("{} ({origin})", name(case)))
         })
     });
-    caught_by
+    first.0
 }
 
 /// The first case by a size that is none.
 fn in_no_sizes(wrong: &dyn Document) -> Option<String> {
-    let mut caught_by = None;
-    let _ = visit_no_sizes(&mut |case| {
-        if alike(case, wrong) {
-            return ControlFlow::Continue(());
-        }
-        caught_by = Some(case.to_string());
-        ControlFlow::Break(())
-    });
-    caught_by
+    let mut first = First::default();
+    let _ = visit_no_sizes(&mut |case| first.note(alike(case, wrong), || case.to_string()));
+    first.0
 }
 
 /// The library and a wrong variant answer alike.
@@ -199,6 +194,14 @@ fn in_small_engines(size: usize, wrong: &dyn Document) -> Option<String> {
     let mut sheets = date_sheets(size, 1).chain(volume_and_speed_sheets(size, 1));
     let found = sheets.any(|chosen| differ(size, wrong, &chosen.sheet));
     found.then(|| format!("report by {size} (sweep of small engines)"))
+}
+
+/// Whether a report of a sheet with pending vehicles shows it.
+fn in_pending(corpus: &Corpus, wrong: &dyn Document) -> Option<String> {
+    let size = corpus.size;
+    let mut sheets = corpus.pending.iter();
+    let found = sheets.any(|chosen| differ(size, wrong, &chosen.sheet));
+    found.then(|| format!("report by {size} ({})", Origin::Pending))
 }
 
 /// The reports differ.

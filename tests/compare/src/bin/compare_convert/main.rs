@@ -4,14 +4,14 @@
 mod library;
 mod seen;
 
-use compare::cases::NO_SIZES;
+use compare::cases::{reported, NO_SIZES};
 use compare::conversions::{visit_conversions, visit_no_sizes, Conversion, Converter, Second};
 use compare::corpus::{Corpus, LineSeries, Scale, FULL, QUICK};
 use compare::draft::random_draft;
 use compare::memory::{Boxes, Edge, Pages};
-use compare::program::{self, Mutants};
+use compare::program::{self, First, Mutants};
 use compare::tally::Tally;
-use library::{report, LIBRARY, WITH_NULL};
+use library::{LIBRARY, WITH_NULL};
 use random::Random;
 use second::variants;
 use second::{judge, Document, Document01, FOUR_POLLUTANTS, SIZES};
@@ -24,20 +24,10 @@ const SECOND: Second<Document01> = Second(&Document01);
 fn main() -> ExitCode {
     program::run(
         "compare_convert",
-        || compare(of_converter(FULL)),
-        || compare(of_converter(QUICK)),
+        || compare(FULL.of_no_judge()),
+        || compare(QUICK.of_no_judge()),
         catch_mutants,
     )
-}
-
-/// Few sheets on a line, as the converter decides nothing.
-fn of_converter(scale: Scale) -> Scale {
-    Scale {
-        pairs_in_cell: 1,
-        exact: false,
-        random_sheets: scale.random_sheets / 2,
-        ..scale
-    }
 }
 
 fn compare(scale: Scale) -> ExitCode {
@@ -81,7 +71,8 @@ fn compare_corpus(corpus: &Corpus, tally: &mut Tally) {
 }
 
 /// "All answers for pollutants 1 to 4 stay equal, and there and back gives the sheet": on both
-/// implementations, with what was made at the start of the output.
+/// implementations, with what was made at the start of the output. A report of four pollutants has
+/// zeros behind it, and so is equal to one of six in which pollutants 5 and 6 are open.
 fn compare_carried(conversion: &Conversion, output: &[u8], tally: &mut Tally) {
     let &Conversion { size, sheet, .. } = conversion;
     let other = Document01.other_size(size);
@@ -93,6 +84,7 @@ fn compare_carried(conversion: &Conversion, output: &[u8], tally: &mut Tally) {
         tally.expect(kept, sheet, "there and back gives the sheet");
     }
     let what = || format!("report of what {conversion} makes, and of the sheet");
+    let report = |size, sheet: &[u8]| reported(&LIBRARY, size, sheet);
     tally.compare(sheet, what, report(other, carried), report(size, sheet));
     let [one, other] = [(size, sheet), (other, carried)]
         .map(|(size, sheet)| judge(&Document01, size, sheet).expect("an accepted sheet"));
@@ -137,7 +129,7 @@ fn compare_empty(tally: &mut Tally) {
 fn catch_mutants() -> ExitCode {
     let scale = Scale {
         random_sheets: 20_000,
-        ..of_converter(FULL)
+        ..FULL.of_no_judge()
     };
     let series = LineSeries::find(scale);
     let corpora = SIZES.map(|size| Corpus::new(size, &series, scale));
@@ -152,27 +144,21 @@ fn catch_mutants() -> ExitCode {
 
 /// The first call that the library and a wrong variant answer differently.
 fn in_corpus(corpus: &Corpus, wrong: &dyn Document) -> Option<String> {
-    let mut found = None;
+    let mut first = First::default();
     let _ = visit_conversions(corpus, &mut |origin, conversion| {
-        if alike(conversion, wrong) {
-            return ControlFlow::Continue(());
-        }
-        found = Some(format!("{conversion}, {origin}"));
-        ControlFlow::Break(())
+        first.note(alike(conversion, wrong), || {
+            format!("{conversion}, {origin}")
+        })
     });
-    found
+    first.0
 }
 
 fn in_no_sizes(wrong: &dyn Document) -> Option<String> {
-    let mut found = None;
+    let mut first = First::default();
     let _ = visit_no_sizes(&mut |conversion| {
-        if alike(conversion, wrong) {
-            return ControlFlow::Continue(());
-        }
-        found = Some(conversion.to_string());
-        ControlFlow::Break(())
+        first.note(alike(conversion, wrong), || conversion.to_string())
     });
-    found
+    first.0
 }
 
 fn alike(conversion: &Conversion, wrong: &dyn Document) -> bool {

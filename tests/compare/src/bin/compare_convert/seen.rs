@@ -1,11 +1,11 @@
 //! What the compared conversions showed from records of one size: every refusal, also where a later
 //! one would have been due, outputs of every kind, the shortest and the longest sheets carried,
-//! small engines and run-in values.
+//! small engines, run-in values and pending vehicles.
 
 use compare::cases::Answer;
-use compare::clauses::has;
+use compare::clauses::{causes, has};
 use compare::conversions::Conversion;
-use compare::draft::{POLLUTANT, RUN_IN, SMALL_ENGINE};
+use compare::draft::{PENDING, POLLUTANT, RUN_IN, SMALL_ENGINE};
 use compare::refusals::OF_RECORD;
 use compare::tally::{Kinds, Tally};
 use second::{Document, Document01, FOUR_POLLUTANTS, SIX_POLLUTANTS};
@@ -24,6 +24,7 @@ enum Kind {
     Records(usize),
     SmallEngine,
     RunIn,
+    Pending,
 }
 
 impl fmt::Display for Kind {
@@ -38,6 +39,7 @@ impl fmt::Display for Kind {
             Kind::Records(records) => write!(formatter, "{records} records carried"),
             Kind::SmallEngine => write!(formatter, "a small engine carried"),
             Kind::RunIn => write!(formatter, "run-in values carried"),
+            Kind::Pending => write!(formatter, "a pending vehicle carried"),
         }
     }
 }
@@ -60,6 +62,7 @@ fn demanded(size: usize) -> Vec<Kind> {
         Kind::Records(Document01.most_records(FOUR_POLLUTANTS)),
         Kind::SmallEngine,
         Kind::RunIn,
+        Kind::Pending,
     ]);
     kinds
 }
@@ -83,6 +86,9 @@ impl Seen {
                 if has(kind, size, sheet) {
                     self.0.count(carried);
                 }
+            }
+            if causes(size, sheet).any(|cause| cause == PENDING) {
+                self.0.count(Kind::Pending);
             }
             return;
         }

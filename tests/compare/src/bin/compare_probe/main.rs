@@ -9,11 +9,11 @@ use compare::corpus::{Corpus, LineSeries, Scale, FULL, QUICK};
 use compare::draft::LARGEST;
 use compare::memory::{Boxes, Edge, Lender, Pages};
 use compare::program::{self, Mutants};
-use compare::tally::Tally;
+use compare::tally::{Kinds, Tally};
 use operations::{evidence_of, lines_of, step_at, Operations, Second, LIBRARY, LINES, WITH_NULL};
 use random::Random;
 use second::variants::{self, Wrong};
-use second::{Document, Document01, FOUR_POLLUTANTS, SIZES};
+use second::{judge, Document, Document01, FOUR_POLLUTANTS, SIZES};
 use std::ops::ControlFlow;
 use std::process::ExitCode;
 
@@ -148,8 +148,10 @@ fn compare_corpus(corpus: &Corpus, tally: &mut Tally) {
     let size = corpus.size;
     let mut pages = Pages::default();
     let (mut sheets, mut steps) = (0usize, 0);
+    let mut words = Kinds::default();
     let _ = corpus.visit(&mut |origin, sheet| {
         sheets += 1;
+        words.count(word(size, sheet));
         let origin = origin.to_string();
         let some = sheets.is_multiple_of(8);
         let edge = Edge::of_call(sheets);
@@ -174,6 +176,19 @@ fn compare_corpus(corpus: &Corpus, tally: &mut Tally) {
         ControlFlow::Continue(())
     });
     println!("{sheets} sheets of {size}-byte records, each with its evidence, and {steps} steps");
+    words.print(size, WORDS.to_vec(), tally);
+}
+
+/// The first words of printed lines, each of which has to be seen; and so is evidence of each
+/// verdict.
+const WORDS: [&str; 6] = ["another", "pass", "fail", "referred", "held", "refused"];
+
+/// What the lines of a sheet begin with, or would in the other size.
+fn word(size: usize, sheet: &[u8]) -> &'static str {
+    let judged = judge(&Document01, size, sheet);
+    judged.map_or("refused", |judgement| {
+        Document01.verdict_word(judgement.verdict)
+    })
 }
 
 fn compare_evidence(

@@ -1,0 +1,5 @@
+pub mod Entry
+pub mod Entering
+pub mod Accepting
+pub mod Series
+pub mod Findings
