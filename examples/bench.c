@@ -31,21 +31,21 @@
  * end.
  *
  * After each engine, each finding, and a stop, the program prints how the series stands; it stops
- * reading when the series is decided. A line that is not understood, or that the library refuses, is
- * passed over: it is told with the reason, and the test goes on with the sheet as it was. Without
- * that limit, small engine, run-in values, engine or finding the series may pass where it would have
- * failed, so a decision after such a line has an exit status of its own, and the last line counts
- * the lines passed over.
+ * reading when the series is decided. A line that is not understood, or that the library refuses,
+ * is passed over: it is told with the reason, and the test goes on with the sheet as it was.
+ * Without that limit, small engine, run-in values, engine or finding the series may pass where it
+ * would have failed, so a decision after such a line has an exit status of its own, and the last
+ * line counts the lines passed over.
  *
  * FILE
  *
  * With -o the sheet is kept in FILE, which the program `verdict` reads if its records have 20
  * bytes. A record or finding is on the disk before the next line is read; a volume or speed above
- * 65535 is kept as 65535. A FILE that holds a sheet is resumed: plan, limits, small engine, run-in values
- * and engines are those of the sheet. The bytes of a record that a crash has torn are told, and cut
- * when the next record is written. A FILE that is no sheet, or one of records of the other size, or
- * that another bench keeps, is left as it is. A pipe or a device is only written to, and takes no
- * finding.
+ * 65535 is kept as 65535. A FILE that holds a sheet is resumed: plan, limits, small engine, run-in
+ * values and engines are those of the sheet. The bytes of a record that a crash has torn are told,
+ * and cut when the next record is written. A FILE that is no sheet, or one of records of the other
+ * size, or that another bench keeps, is left as it is. A pipe or a device is only written to, and
+ * takes no finding.
  *
  * EXIT STATUS
  *

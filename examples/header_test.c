@@ -309,7 +309,8 @@ static void later_texts(void)
     CHECK(strcmp(conformity_refusal_text(CONFORMITY_REFUSED_RUN_IN),
                  "the run-in record is a second one, follows an engine, or is in plan 4") == 0);
     CHECK(strcmp(conformity_refusal_text(CONFORMITY_REFUSED_CAUSE),
-                 "the cause is 0 for a gross emitter in plan 4, or not 0 for any other engine") == 0);
+                 "the cause is 0 for a gross emitter in plan 4, "
+                 "or not 0 for any other engine") == 0);
     CHECK(strcmp(conformity_refusal_text(CONFORMITY_REFUSED_NOT_PENDING),
                  "the finding of that engine is not pending, or there is no such engine") == 0);
     CHECK(strcmp(conformity_refusal_text(CONFORMITY_REFUSED_FINDING),
@@ -1248,8 +1249,8 @@ static void run_in_engines(void)
 
 /* ---- Document 02, F-5: held sheets and findings ---- */
 
-/* Enters a finding; checks that just the two bytes of the engine's cause change on success, the lower
-   first, and none on a refusal. */
+/* Enters a finding; checks that just the two bytes of the engine's cause change on success, the
+   lower first, and none on a refusal. */
 static uint32_t enter(uint32_t engine, uint32_t finding)
 {
     uint32_t code;

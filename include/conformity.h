@@ -723,8 +723,8 @@ static inline uint32_t conformity_report_ground(const uint8_t report[CONFORMITY_
     return report[2];
 }
 
-/* The engine, counted from 1, at which the series was decided or is held; for another, the engines so
-   far. */
+/* The engine, counted from 1, at which the series was decided or is held; for another, the engines
+   so far. */
 static inline uint32_t conformity_report_engine(const uint8_t report[CONFORMITY_REPORT_SIZE])
 {
     return report[3];

@@ -6,3 +6,4 @@ pub mod SameKinds
 pub mod Causes
 pub mod Ranges
 pub mod Sheets
+pub mod BeforeRows

@@ -1,11 +1,11 @@
 -- What an accepted sheet has: records in their places, a plan, and engines to its last row at most.
 use Rattle.arithmetic.proofs.Basics.{ℕ, zero, suc, _+_, _-_, _*_, _/_, _≤_, _<_, mul-zero, mul-div-le, mul-le-mul-left, div-le-of-le-mul, arith, _≡_, refl, sym, ap, _∙_, Bool, true, false, cond, List, [], _∷_, _++_}
 use Rattle.arithmetic.proofs.Basics.{append-assoc, append-nil, eqb, length, getD, length-append, length-map, List·getD-append, List·getD-map, eqb-true}
-use Rattle.arithmetic.proofs.Basics.{not-false, leb-false, in-range, by-test}
-use Rattle.rules.specs.Sheet.{Record, morePollutants, size, most, records, pollutantKind, engineKind, stopKind, smallEngineKind, runInKind, kind, plan, ofKind, engines, runIns, pollutant}
+use Rattle.arithmetic.proofs.Basics.{ne-eqb, not-false, leb-false, by-test}
+use Rattle.rules.specs.Sheet.{Record, morePollutants, size, most, records, pollutantKind, engineKind, stopKind, smallEngineKind, runInKind, kind, ofKind, engines, runIns, pollutant}
 use Rattle.rules.specs.Sheet.{declared, planNumber}
 use Rattle.rules.specs.Plans.{Plan, knownDeviation, unknownDeviation, attributes, inService, corrected, planOf, lastRow, planCount, numberOf}
-use Rattle.rules.specs.Refusals.{misplaced, badPlan, tooMany}
+use Rattle.rules.specs.Refusals.{misplaced, tooMany}
 use Rattle.accepted.specs.Sheets.{recordAt, pollutantsIn, runInsIn, enginesIn, AcceptedSheet}
 use Rattle.accepted.proofs.Records.{record-at, whole-records, length-records}
 use Rattle.accepted.proofs.Faultless.{Clean, Sound, sound, faultless, ofKind-append}
@@ -13,7 +13,7 @@ use Rattle.accepted.proofs.Engines.{layout, heading-parts, counts, engi
 use Rattle.accepted.proofs.ByNumber.{InOrder, in-order}
 use Rattle.accepted.proofs.Causes.{Caused, causes, plan-append}
 
--- ---- the first record declares a pollutant and the plan
+-- ---- the first record declares a pollutant
 
 -- "3, first record not kind 1"
 first-kind : (w : ℕ) (r : Record) (rs : List Record) → Clean w [] (r ∷ rs) → eqb (kind r) pollutantKind ≡ true
@@ -25,12 +25,7 @@ unfolding declared ofKind
 some-declared w [] l c = absurd (omega arith)
 some-declared w (r ∷ rs) l c = rw (first-kind w r rs c) (omega arith)
 
--- "5, plan not 1 to 4"; 02, F-6: "Refusal 5 admits plan 5."
-plan-range : (w : ℕ) (rs : List Record) → 1 ≤ length rs → Clean w [] rs → (1 ≤ planNumber rs) × (planNumber rs ≤ planCount)
-unfolding planNumber badPlan
-plan-range w [] l c = absurd (omega arith)
-plan-range w (r ∷ rs) l c =
-    in-range 1 planCount (plan r) (faultless w [] r (c .0) .planned (first-kind w r rs c))
+-- ---- the numbers of the plans
 
 abbrev pub isInService : Plan → Bool
 isInService knownDeviation = false
@@ -58,13 +53,18 @@ plan-of-number attributes = refl
 plan-of-number inService = refl
 plan-of-number corrected = refl
 
--- plan 4 is the one in service
-service-number : (plan : Plan) → isInService plan ≡ eqb (numberOf plan) (numberOf inService)
-service-number knownDeviation = refl
-service-number unknownDeviation = refl
-service-number attributes = refl
-service-number inService = refl
-service-number corrected = refl
+-- plan 4 is the one in service, whatever the number
+pub service-number : (n : ℕ) → isInService (planOf n) ≡ eqb n (numberOf inService)
+unfolding planOf
+service-number zero = refl
+service-number (suc zero) = refl
+service-number (suc (suc zero)) = refl
+service-number (suc (suc (suc zero))) = refl
+service-number (suc (suc (suc (suc zero)))) = refl
+service-number (suc (suc (suc (suc (suc zero))))) = refl
+service-number (suc (suc (suc (suc (suc (suc n)))))) =
+    let o : (k : ℕ) → k < 6 → eqb (suc (suc (suc (suc (suc (suc n)))))) k ≡ false = λ k h. ne-eqb _ k (λ e. omega arith) in
+    rw (o 1 (omega arith), o 2 (omega arith), o 3 (omega arith), o 4 (omega arith), o 5 (omega arith)) refl
 
 -- ---- "10, more engines than the last row"
 
@@ -183,6 +183,4 @@ module _ {w : ℕ} {b : List ℕ} {plan : Plan} {start : ℕ} (s : AcceptedSheet
 
   -- in plan 4 the gross emitters are the vehicles with a cause, and in the other plans there is none
   pub caused : Caused (isInService plan) (pollutantsIn w b) es
-  caused =
-      let r = plan-range w rs some-record clean in
-      rw (s .planned, service-number (planOf (planNumber rs)), number-of-plan (planNumber rs) (r .0) (r .1)) (causes w rs clean)
+  caused = rw (s .planned, service-number (planNumber rs)) (causes w rs clean)

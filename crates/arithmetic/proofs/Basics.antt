@@ -1,5 +1,5 @@
 -- What proofs are written in: the words of the kit, under the names that the kit gives them, and the laws of tests, order and lists.
-pub use Prim.Native.Nat.{ℕ, zero, suc, _≤_, _<_, _+_, _*_, _%_, _/_, _-_, _^_, zero-le}
+pub use Prim.Native.Nat.{ℕ, zero, suc, _≤_, _<_, _+_, _*_, _%_, _/_, _-_, _^_, max, zero-le}
 pub use native.Mathlib.Omega.{arith}
 pub use native.Mathlib.Nat.{zero-add, suc-add, mul-zero, mul-suc, div-add-mod, mul-add-div, add-assoc, div-le-of-le-mul, add-zero, add-suc, mul-le-mul}
 pub use native.Mathlib.Nat.{mul-le-mul-right, le-trans, add-comm, le-refl, mul-le-mul-left, pow-suc, pow-zero, mod-eq-of-lt, le-of-eq, add-sub-cancel-left}

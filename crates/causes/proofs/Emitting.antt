@@ -1,15 +1,16 @@
--- The gross emitters by their causes: what comes before a row's statistics.
-use Rattle.arithmetic.proofs.Basics.{ℕ, suc, _+_, _≤_, _<_, arith, _≡_, refl, ap, Bool, true, false, not, _&&_, _||_, cond, List, [], _∷_, _++_, map, leb, ltb}
-use Rattle.arithmetic.proofs.Basics.{eqb, length, getD, take, drop, length-append, take-append-drop, take-suc, never, eqb-true, eqb-false}
-use Rattle.arithmetic.proofs.Basics.{and-never, or-same, or-assoc, by-test, not-ltb, leb-same, those-append, any-those}
+-- What comes before a row's statistics: which rows end or hold the series, and which are looked at.
+use Rattle.arithmetic.proofs.Basics.{ℕ, suc, _+_, _≤_, _<_, arith, _≡_, refl, ap, Bool, true, false, not, _&&_, _||_, cond, List, [], _∷_, _++_, leb, ltb}
+use Rattle.arithmetic.proofs.Basics.{eqb, length, getD, take, length-append, take-suc, never, eqb-true, eqb-false}
+use Rattle.arithmetic.proofs.Basics.{or-same, or-assoc, by-test, not-ltb, leb-same, those-append, any-those}
 use mir.Val.{boolByte}
 use Rattle.rules.specs.Tools.{any, those}
-use Rattle.rules.specs.Sheet.{Record, Pollutant, cause, isPending, gross}
-use Rattle.rules.specs.Plans.{Plan, knownDeviation, unknownDeviation, attributes, inService, corrected, Row}
+use Rattle.rules.specs.Sheet.{Record}
+use Rattle.rules.specs.Plans.{Plan, Row}
 use Rattle.rules.specs.Series as rules
 use Rattle.accepted.specs.Sheets.{pollutantsIn, enginesIn}
 use Rattle.accepted.proofs.Causes.{hasCause, Caused}
 use Rattle.accepted.proofs.Sheets.{isInService}
+use Rattle.accepted.proofs.BeforeRows.{caused-cut, no-cause, pick, repeatsOf, pendingOf, referralBy, leftBy, before-is}
 use Rattle.columns.specs.Columns.{turned, closes}
 use Rattle.causes.specs.Causes.{causeIn, beforeIn, firstRow}
 
@@ -35,64 +36,8 @@ module _ {A : Type 0} (test : A → Bool) where
       (by-test (λ t. length (those test (take k xs)) + length (cond t (getD xs k d ∷ []) []) ≡ length (those test (take k xs)) + boolByte t)
       (test (getD xs k d)) (λ e. refl) (λ e. refl))
 
--- ---- tests by gross emission and by cause agree
+-- ---- a row ends or holds the series from row 3 on, by equal cause, a pending finding or referral
 
-module _ (b : Bool) (ps : List Pollutant) where
-  caused-parts : (xs ys : List Record) → Caused b ps (xs ++ ys) → Caused b ps xs × Caused b ps ys
-  caused-parts [] ys c = (tt, c)
-  caused-parts (x ∷ xs) ys (e, c) = let r = caused-parts xs ys c in ((e, r .0), r .1)
-
-  pub caused-cut : (n : ℕ) (es : List Record) → Caused b ps es → Caused b ps (take n es) × Caused b ps (drop n es)
-  caused-cut n es c = caused-parts (take n es) (drop n es) (rw (take-append-drop n es) c)
-
-module _ (ps : List Pollutant) where
-  those-gross : (es : List Record) → Caused true ps es → those (gross ps) es ≡ those hasCause es
-  those-gross [] c = refl
-  those-gross (e ∷ es) c = rw (c .0, those-gross es (c .1)) refl
-
-  any-gross : (es : List Record) → Caused true ps es → any (gross ps) es ≡ any hasCause es
-  any-gross es c = rw (any-those (gross ps) es, any-those hasCause es, those-gross es c) refl
-
-  no-cause : (es : List Record) → Caused false ps es → those hasCause es ≡ []
-  no-cause [] c = refl
-  no-cause (e ∷ es) c = rw (← (c .0), no-cause es (c .1)) refl
-
--- ---- what comes before the statistics of row n
-
-abbrev pick : (early equal pending referral left : Bool) → rules.Before
-pick a b p c d =
-    cond a rules.early (cond b rules.equalCause (cond p rules.findingPending (cond c rules.referral (cond d rules.leftOpen rules.statistics))))
-
--- by the causes of the first n vehicles
-abbrev pub repeatsOf : (first : List Record) → Bool
-repeatsOf first = rules.repeats (rules.known (map cause (those hasCause first)))
-
-abbrev pub pendingOf : (first : List Record) → Bool
-pendingOf first = any isPending (map cause (those hasCause first))
-
-abbrev pub referralBy : (n : ℕ) → (first : List Record) → Bool
-referralBy n first = eqb n 15 && leb 2 (length (those hasCause first))
-
-abbrev pub leftBy : (n : ℕ) → (first : List Record) → Bool
-leftBy n first = eqb n 3 && any hasCause first
-
-abbrev pub beforeBy : (n : ℕ) → (first : List Record) → rules.Before
-beforeBy n first = pick (ltb n 3) (repeatsOf first) (pendingOf first) (referralBy n first) (leftBy n first)
-
-module _ (ps : List Pollutant) (n : ℕ) (first : List Record) where
-  -- in plans 1 to 3 and 5 there is no cause
-  plain : Caused false ps first → cond (ltb n 3) rules.early rules.statistics ≡ beforeBy n first
-  plain c = rw (any-those hasCause first, no-cause ps first c, and-never (eqb n 15), and-never (eqb n 3)) refl
-
-  pub before-is : (plan : Plan) → Caused (isInService plan) ps first → rules.beforeRow plan ps n first ≡ beforeBy n first
-  unfolding rules.beforeRow rules.inServiceBefore
-  before-is knownDeviation c = plain c
-  before-is unknownDeviation c = plain c
-  before-is attributes c = plain c
-  before-is inService c = rw (those-gross ps first c, any-gross ps first c) refl
-  before-is corrected c = plain c
-
--- a row ends or holds the series from row 3 on, by equal cause, a pending finding or referral
 pub closes-pick : (a b p c d : Bool) → closes (pick a b p c d) ≡ not a && (b || (p || c))
 closes-pick true b p c d = refl
 closes-pick false true p c d = refl

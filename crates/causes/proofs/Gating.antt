@@ -11,11 +11,12 @@ use Rattle.rules.specs.Series as rules
 use Rattle.accepted.specs.Sheets.{pollutantsIn, enginesIn}
 use Rattle.accepted.proofs.Causes.{hasCause}
 use Rattle.accepted.proofs.Sheets.{rows-fit, caused}
+use Rattle.accepted.proofs.BeforeRows.{caused-cut, repeatsOf, pendingOf, referralBy, leftBy, beforeBy, before-is}
 use Rattle.columns.specs.Columns.{openAfter, causeAfter, heldAfter, referralAfter, gate, closes}
 use Rattle.columns.proofs.Gates.{gate-opens, gate-open, gate-ends}
 use Rattle.causes.specs.Causes.{causeIn, equalCauses, emittersIn, repeatsIn, pendingIn, repeatsBy, beforeIn, gateOf, inServiceGate}
 use Rattle.causes.specs.Ranges.{InServiceRange}
-use Rattle.causes.proofs.Emitting.{those-not, those-next, count-next, caused-cut, repeatsOf, pendingOf, referralBy, leftBy, beforeBy, before-is, closes-pick}
+use Rattle.causes.proofs.Emitting.{those-not, those-next, count-next, closes-pick}
 
 no-length : {A : Type 0} (xs : List A) → length xs ≡ 0 → xs ≡ []
 no-length [] e = refl

@@ -1,5 +1,5 @@
--- What comes before the statistics of a row as the program finds it, by the causes. proofs/Emitting shows it equal to document 01's
--- `beforeRow`.
+-- What comes before the statistics of a row as the program finds it, by the causes: accepted/proofs/BeforeRows shows that document 01's
+-- `beforeRow` goes by them alone.
 use Prim.Native.Nat.{ℕ}
 use mathlib.Core.Bool.{Bool, not, _&&_, _||_, cond}
 use mathlib.Core.List.{List, [], map}
