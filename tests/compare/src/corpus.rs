@@ -55,9 +55,15 @@ pub const QUICK: Scale = Scale {
     promises: 200,
 };
 
+/// For the wrong variants of an operation that judges nothing.
+pub const MUTANTS_OF_NO_JUDGE: Scale = Scale {
+    random_sheets: 20_000,
+    ..FULL.of_no_judge()
+};
+
 impl Scale {
     /// Few sheets on a line, for an operation that judges nothing.
-    pub fn of_no_judge(self) -> Self {
+    pub const fn of_no_judge(self) -> Self {
         Scale {
             pairs_in_cell: 1,
             exact: false,

@@ -6,7 +6,7 @@ mod seen;
 
 use compare::cases::{reported, NO_SIZES};
 use compare::conversions::{visit_conversions, visit_no_sizes, Conversion, Converter, Second};
-use compare::corpus::{Corpus, LineSeries, Scale, FULL, QUICK};
+use compare::corpus::{Corpus, LineSeries, Scale, FULL, MUTANTS_OF_NO_JUDGE, QUICK};
 use compare::draft::random_draft;
 use compare::memory::{Boxes, Edge, Pages};
 use compare::program::{self, First, Mutants};
@@ -127,12 +127,8 @@ fn compare_empty(tally: &mut Tally) {
 }
 
 fn catch_mutants() -> ExitCode {
-    let scale = Scale {
-        random_sheets: 20_000,
-        ..FULL.of_no_judge()
-    };
-    let series = LineSeries::find(scale);
-    let corpora = SIZES.map(|size| Corpus::new(size, &series, scale));
+    let series = LineSeries::find(MUTANTS_OF_NO_JUDGE);
+    let corpora = SIZES.map(|size| Corpus::new(size, &series, MUTANTS_OF_NO_JUDGE));
     let mut mutants = Mutants::default();
     for wrong in variants::convert() {
         let reading = wrong.reading.as_ref();

@@ -5,7 +5,7 @@ mod library;
 mod seen;
 
 use compare::cases::{reported, Answer, Second, NO_SIZES};
-use compare::corpus::{Corpus, LineSeries, Scale, FULL, QUICK};
+use compare::corpus::{Corpus, LineSeries, Scale, FULL, MUTANTS_OF_NO_JUDGE, QUICK};
 use compare::draft::{Draft, LARGEST_CAUSE};
 use compare::findings::{chains, visit_findings, visit_no_sizes, Chain, Finding};
 use compare::memory::{Boxes, Edge, Pages};
@@ -193,12 +193,8 @@ fn compare_empty(tally: &mut Tally) {
 
 /// Those that are not about the size are to be noticed in either.
 fn catch_mutants() -> ExitCode {
-    let scale = Scale {
-        random_sheets: 20_000,
-        ..FULL.of_no_judge()
-    };
-    let series = LineSeries::find(scale);
-    let corpora = SIZES.map(|size| Corpus::new(size, &series, scale));
+    let series = LineSeries::find(MUTANTS_OF_NO_JUDGE);
+    let corpora = SIZES.map(|size| Corpus::new(size, &series, MUTANTS_OF_NO_JUDGE));
     let mut mutants = Mutants::default();
     for wrong in variants::finding() {
         let reading = wrong.reading.as_ref();

@@ -21,14 +21,10 @@ pub fn finding() -> Vec<Wrong> {
     all
 }
 
-/// A refusal gives way to one that comes after it, where that is due for the engine or the finding.
-struct Sooner {
-    number: u8,
-    due: fn(u32, u32) -> bool,
-    before: fn(Refusal) -> bool,
-}
+/// What is refused is answered otherwise, by this rule of the refusal, the engine and the finding.
+struct Turned<R>(R);
 
-impl Document for Sooner {
+impl<R: Fn(Refusal, u32, u32) -> Option<Refusal>> Document for Turned<R> {
     fn finding_refusal(
         &self,
         engine: u32,
@@ -36,30 +32,28 @@ impl Document for Sooner {
         checked: Result<Series, Refusal>,
     ) -> Option<Refusal> {
         let refusal = Document01.finding_refusal(engine, finding, checked)?;
-        let sooner = (self.before)(refusal) && (self.due)(engine, finding);
-        Some(match sooner {
-            true => Refusal::of_no_record(self.number),
+        (self.0)(refusal, engine, finding)
+    }
+}
+
+/// A refusal gives way to one that comes after it, where that is due for the engine or the finding.
+fn sooner(number: u8, before: fn(Refusal) -> bool, due: fn(u32, u32) -> bool) -> impl Document {
+    Turned(move |refusal, engine, finding| {
+        Some(match before(refusal) && due(engine, finding) {
+            true => Refusal::of_no_record(number),
             false => refusal,
         })
-    }
+    })
 }
 
 /// 23 for engine 0.
-fn vehicle_sooner(before: fn(Refusal) -> bool) -> Sooner {
-    Sooner {
-        number: 23,
-        due: |engine, _| engine == 0,
-        before,
-    }
+fn vehicle_sooner(before: fn(Refusal) -> bool) -> impl Document {
+    sooner(23, before, |engine, _| engine == 0)
 }
 
 /// 24 for what is no finding.
-fn finding_sooner(before: fn(Refusal) -> bool) -> Sooner {
-    Sooner {
-        number: 24,
-        due: |_, finding| !Document01.finding_fits(finding),
-        before,
-    }
+fn finding_sooner(before: fn(Refusal) -> bool) -> impl Document {
+    sooner(24, before, |_, finding| !Document01.finding_fits(finding))
 }
 
 /// "The sheet's own number; then 23, [..]; 24, [..], after 23".
@@ -99,33 +93,19 @@ fn records_of_refusals() -> Vec<Wrong> {
     vec![
         Wrong::new("finding: record 1 for refusal 23", RecordOne(23)),
         Wrong::new("finding: record 1 for refusal 24", RecordOne(24)),
-        wrong!(
+        Wrong::new(
             "finding: 23 and 24 with the engine",
-            fn finding_refusal(
-                &self,
-                engine: u32,
-                finding: u32,
-                checked: Result<Series, Refusal>,
-            ) -> Option<Refusal> {
-                let refusal = Document01.finding_refusal(engine, finding, checked)?;
+            Turned(|refusal: Refusal, engine, _| {
                 let record = match refusal.number {
                     23 | 24 => engine as u8,
                     _ => refusal.record,
                 };
                 Some(Refusal { record, ..refusal })
-            }
+            }),
         ),
-        wrong!(
+        Wrong::new(
             "finding: a sheet's own refusal with record 0",
-            fn finding_refusal(
-                &self,
-                engine: u32,
-                finding: u32,
-                checked: Result<Series, Refusal>,
-            ) -> Option<Refusal> {
-                let refusal = Document01.finding_refusal(engine, finding, checked)?;
-                Some(Refusal::of_no_record(refusal.number))
-            }
+            Turned(|refusal: Refusal, _, _| Some(Refusal::of_no_record(refusal.number))),
         ),
     ]
 }
@@ -327,32 +307,13 @@ fn findings_taken() -> Vec<Wrong> {
 /// "The sheet's own number": a sheet is checked as every operation checks it.
 fn sheets_taken() -> Vec<Wrong> {
     vec![
-        wrong!(
+        Wrong::new(
             "finding: a sheet with a fault taken",
-            fn finding_refusal(
-                &self,
-                engine: u32,
-                finding: u32,
-                checked: Result<Series, Refusal>,
-            ) -> Option<Refusal> {
-                let refusal = Document01.finding_refusal(engine, finding, checked);
-                refusal.filter(|&refusal| !is_of_record(refusal))
-            }
+            Turned(|refusal, _, _| Some(refusal).filter(|&refusal| !is_of_record(refusal))),
         ),
-        wrong!(
+        Wrong::new(
             "finding: a sheet with a fault refused with 23",
-            fn finding_refusal(
-                &self,
-                engine: u32,
-                finding: u32,
-                checked: Result<Series, Refusal>,
-            ) -> Option<Refusal> {
-                let refusal = Document01.finding_refusal(engine, finding, checked)?;
-                Some(match is_of_record(refusal) {
-                    true => Refusal::of_no_record(23),
-                    false => refusal,
-                })
-            }
+            sooner(23, is_of_record, |_, _| true),
         ),
         wrong!(
             "finding: 9 for every pending vehicle, as before F-5",
