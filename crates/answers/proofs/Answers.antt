@@ -15,16 +15,16 @@ series_of q rs = after (plan_of (plan_number rs)) (declared rs) (run_ins rs) q (
 -- what an answer says of the check
 abbrev pub check_in : Answer → Check
 check_in (refusal number place) = refused number place
-check_in (judgement verdict engine ground pairs) = accepted
+check_in (judgement verdict engine grounds pairs) = accepted
 
 -- its engine, 0 where it is a refusal
 abbrev pub engine_in : Answer → ℕ
 engine_in (refusal number place) = 0
-engine_in (judgement verdict engine ground pairs) = engine
+engine_in (judgement verdict engine grounds pairs) = engine
 
 answered : (w : ℕ) (stop : Bool) (n : ℕ) (s : Series) → check_in (answer w stop n s) ≡ accepted
 answered w stop n (passed m ss) = refl
-answered w stop n (failed m ground ss) = refl
+answered w stop n (failed m grounds ss) = refl
 answered w stop n (referred m ss) = refl
 answered w stop n (held m ss) = refl
 answered w true n (ongoing ss) = refl
@@ -45,7 +45,7 @@ module _ (w q : ℕ) (b : List ℕ) where
   judge-accepted e = rw e refl
 
   -- a judgement only where the check accepts: "A sheet that the check refuses is refused by every other operation"
-  pub judgement-accepted : {v n ground : ℕ} {pairs : List Pair} → judge w q b ≡ judgement v n ground pairs
+  pub judgement-accepted : {v n grounds : ℕ} {pairs : List Pair} → judge w q b ≡ judgement v n grounds pairs
       → check w b ≡ accepted
   judgement-accepted e = sym judge-check ∙ ap check_in e
 
@@ -55,4 +55,4 @@ module _ (w q : ℕ) (b : List ℕ) where
     where
       cases : (a : Answer) → check_in a ≡ accepted → (v : ℕ) × (n : ℕ) × Says a v n
       cases (refusal number place) f = let z : true ≡ false = cc in never z
-      cases (judgement v n ground pairs) f = (v, n, (ground, pairs, refl))
+      cases (judgement v n grounds pairs) f = (v, n, (grounds, pairs, refl))

@@ -65,7 +65,7 @@ check-range w b =
 abbrev pub DecidedAt : (n : ℕ) → Series → Type 0
 DecidedAt n (ongoing ss) = Unit {0}
 DecidedAt n (passed m ss) = m ≡ n
-DecidedAt n (failed m ground ss) = (m ≡ n) × (ground ≤ 2)
+DecidedAt n (failed m grounds ss) = (m ≡ n) × (grounds ≤ 2)
 DecidedAt n (referred m ss) = m ≡ n
 DecidedAt n (held m ss) = m ≡ n
 
@@ -97,7 +97,7 @@ module _ (plan : Plan) (vs : List Record) (q : ℕ) where
     unfolding after
     walk-made n (ongoing ss) e h = (suc n, omega arith, row_at (before_row plan ps (suc n) (take (suc n) es)) (suc n) (take (suc n) es) ss, rw e refl)
     walk-made n (passed m ss) e h = (h.0, omega (arith, h.1), h.2, h.3)
-    walk-made n (failed m ground ss) e h = (h.0, omega (arith, h.1), h.2, h.3)
+    walk-made n (failed m grounds ss) e h = (h.0, omega (arith, h.1), h.2, h.3)
     walk-made n (referred m ss) e h = (h.0, omega (arith, h.1), h.2, h.3)
     walk-made n (held m ss) e h = (h.0, omega (arith, h.1), h.2, h.3)
 
@@ -110,7 +110,7 @@ module _ (plan : Plan) (vs : List Record) (q : ℕ) where
 
 abbrev pub JudgementIn : (w n : ℕ) → Answer → Type 0
 JudgementIn w n (refusal number place) = ⊥
-JudgementIn w n (judgement v m ground pairs) = (v ≤ 4) × (m ≤ n) × (ground ≤ 5) × (length pairs ≡ w)
+JudgementIn w n (judgement v m grounds pairs) = (v ≤ 4) × (m ≤ n) × (grounds ≤ 5) × (length pairs ≡ w)
 
 length-numbers : (w : ℕ) → length (numbers w) ≡ w
 length-numbers zero = refl
@@ -122,7 +122,7 @@ length_pairs w ss = length-map (numbers w) _ ∙ length-numbers w
 
 answer-range : (w : ℕ) (stop : Bool) (n m : ℕ) (s : Series) → m ≤ n → DecidedAt m s → JudgementIn w n (answer w stop n s)
 answer-range w stop n m (passed k ss) l h = omega (arith, length_pairs w ss)
-answer-range w stop n m (failed k ground ss) l h = omega (arith, h, length_pairs w ss)
+answer-range w stop n m (failed k grounds ss) l h = omega (arith, h, length_pairs w ss)
 answer-range w stop n m (referred k ss) l h = omega (arith, length_pairs w ss)
 answer-range w stop n m (held k ss) l h = omega (arith, length_pairs w ss)
 answer-range w true n m (ongoing ss) l h = omega (arith, length_pairs w ss)
@@ -136,7 +136,7 @@ judgement-range w q rs =
 
 engine-in : (w n : ℕ) (a : Answer) → JudgementIn w n a → engine_in a ≤ n
 engine-in w n (refusal number place) h = absurd h
-engine-in w n (judgement v m ground pairs) h = h.1
+engine-in w n (judgement v m grounds pairs) h = h.1
 
 -- the engine of a decision is among those tested
 pub engine-within : (w q : ℕ) (rs : List Record) → engine_in (judge_records w q rs) ≤ length (engines rs)

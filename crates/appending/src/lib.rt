@@ -1,4 +1,6 @@
 // Append adds a record to the sheet in a lent buffer.
+#![tactic(auto)]
+
 ghost use Rattle.std.specs.Prelude.{◌≡◌};
 ghost use Rattle.rules.specs.Sizes.{append_sized, appended_sized};
 ghost use Rattle.outcomes.specs.Outcomes.{outcome_is};

@@ -30,7 +30,7 @@ module _ {A B : Type 0} {P : A → B → Type 0} where
   pairs-at (a ∷ xs) [] x y l h = absurd (omega arith)
   pairs-at (a ∷ xs) (b ∷ ys) x y l h = more (h 0 (omega arith)) (pairs-at xs ys x y (omega arith) (λ j k. h (suc j) (omega arith)))
 
-  pub pairs-take : {xs : List A} {ys : List B} (n : ℕ) → Pairs P xs ys → Pairs P (take n xs) (take n ys)
+  pub pairs-take : (n : ℕ) {xs : List A} {ys : List B} → Pairs P xs ys → Pairs P (take n xs) (take n ys)
   pairs-take zero r = none
   pairs-take (suc n) none = none
   pairs-take (suc n) (more h r) = more h (pairs-take n r)

@@ -89,7 +89,7 @@ module _ {o : Old} {is_new : Record → Bool} (a : Added o is_new) where
     -- a refused sheet has none, and the heading of an accepted one is as before
     evidence-by : (j : Answer) → (check_in j ≡ accepted → heading (records w b) ≡ o.heading (records w b)) → evidence_by w j b ≡ old.evidence_by o w j b
     evidence-by (refusal number place) h = refl
-    evidence-by (judgement v n ground ps) h = rw (h refl) refl
+    evidence-by (judgement v n grounds ps) h = rw (h refl) refl
 
     pub evidence-same : (q : ℕ) → evidence w q b ≡ old.evidence o w q b
     unfolding evidence old.evidence

@@ -51,7 +51,7 @@ module _ (o : Old) where
 
   abbrev pub evidence_by : (w : ℕ) → Answer → List ℕ → List ℕ
   evidence_by w (refusal number place) b = []
-  evidence_by w (judgement verdict n ground pairs) b = cond (eqb ground 1 || eqb ground 2) (through w n b) b
+  evidence_by w (judgement verdict n grounds pairs) b = cond (eqb grounds 1 || eqb grounds 2) (through w n b) b
 
   unfoldable pub evidence : (w q : ℕ) → List ℕ → List ℕ
   evidence w q b = evidence_by w (judge w q b) b

@@ -1,4 +1,6 @@
 // The Gregorian calendar of years 1 to 9999, taken back to year 1.
+#![tactic(auto)]
+
 ghost use Rattle.std.specs.Prelude.{◌≡◌};
 ghost use Rattle.rules.specs.Calendar.{leap, days, is_day_lem};
 

@@ -169,8 +169,8 @@ abbrev fifth : (deviation : ℕ) → List ℕ
 fifth t = wide (pollutant 5 1 4000 t) ++ six_run_in 0 0 0 0 2000 0 ++ times 3 (six 0 0 0 0 0 4000 0)
 
 -- an answer in which no pollutant is decided
-abbrev none_decided : (verdict engine ground : ℕ) → Answer
-none_decided v n ground = judgement v n ground (replicate 6 (pair 0 0))
+abbrev none_decided : (verdict engine grounds : ℕ) → Answer
+none_decided v n grounds = judgement v n grounds (replicate 6 (pair 0 0))
 
 wide_table : List Case
 wide_table =

@@ -75,8 +75,8 @@ small L v n d = pollutant 4 3 L 0 ++ small_engine_lem v n d
 abbrev particulates : ℕ → List ℕ
 particulates x = engine 0 0 0 0 x
 
-abbrev fourth : (verdict engine ground decision decided_at : ℕ) → Answer
-fourth v n ground decision at = judgement v n ground (replicate 3 (pair 0 0) ++ (pair decision at ∷ []))
+abbrev fourth : (verdict engine grounds decision decided_at : ℕ) → Answer
+fourth v n grounds decision at = judgement v n grounds (replicate 3 (pair 0 0) ++ (pair decision at ∷ []))
 
 -- bytes 8 to 11 of a record of kind 5 whose date is one
 abbrev day : List ℕ

@@ -23,8 +23,8 @@ b ↦→ a = record { sheet = b; answer = a }
 
 infix 20 ◌↦→◌
 -- an answer in which pollutant 1 alone may be decided
-abbrev pub one : (verdict engine ground decision decided_at : ℕ) → Answer
-one v n ground decision at = judgement v n ground (pair decision at ∷ replicate 3 (pair 0 0))
+abbrev pub one : (verdict engine grounds decision decided_at : ℕ) → Answer
+one v n grounds decision at = judgement v n grounds (pair decision at ∷ replicate 3 (pair 0 0))
 
 table : List Case
 table =

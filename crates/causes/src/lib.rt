@@ -2,6 +2,8 @@
 // alone.
 //
 // On an accepted sheet the gross emitters are the vehicles with a cause, so outside plan 4 there are none.
+#![tactic(auto)]
+
 ghost use Rattle.std.specs.Prelude.{◌≡◌, not, ◌&&◌, ◌||◌, ◌+◌, leb, eqb};
 ghost use Rattle.rules.specs.Sheet.{is_pending};
 ghost use Rattle.plan.specs.Plan.{plan_is};

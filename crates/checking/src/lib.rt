@@ -1,4 +1,6 @@
 // The check of a sheet: the first faulty record and in it the first refusal in their order, or what the sheet says.
+#![tactic(auto)]
+
 ghost use Rattle.std.specs.Prelude.{◌≡◌, ◌+◌, ◌*◌, length};
 ghost use Rattle.rules.specs.Sheet.{records};
 ghost use Rattle.rules.specs.Refusals.{bad_length_lem};

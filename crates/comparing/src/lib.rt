@@ -1,5 +1,7 @@
 // Two sheets held against each other, record by record: 02, F-8, "27, sheets differ elsewhere, or in the first engine of a run-in sheet;
 // 28, a low above its high".
+#![tactic(auto)]
+
 ghost use Rattle.std.specs.Prelude.{◌≡◌, true, false, ◌+◌, ◌*◌, length};
 ghost use Rattle.rules.specs.Tools.{four};
 ghost use Rattle.rules.specs.Sheet as rules;

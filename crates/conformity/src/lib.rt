@@ -1,6 +1,8 @@
 // The entries for programs in C, answering number * 256 + record, 0 on success: append and report for the bench's control program, of
 // 20-byte records and by the record size, the converter between the sizes, the finding that is entered for a vehicle, what is sure of
 // measurements known within a range, and declared for type approval.
+#![tactic(auto)]
+
 ghost use Rattle.std.specs.Prelude.{◌≡◌};
 ghost use Rattle.rules.specs.Logarithm.{squarings};
 ghost use Rattle.rules.specs.Sheet.{pollutants};

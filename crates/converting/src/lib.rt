@@ -1,4 +1,6 @@
 // The converter: carries an accepted sheet from one record size to the other, record by record.
+#![tactic(auto)]
+
 ghost use Rattle.std.specs.Prelude.{◌≡◌, ◌++◌, length, drop};
 ghost use Rattle.rules.specs.Sheet.{pollutants};
 ghost use Rattle.rules.specs.Converter as rules;

@@ -1,4 +1,6 @@
 // Document 02, F-2: "Makers run in the first engine and correct the others". What corrects a pollutant's column, by the sheet.
+#![tactic(auto)]
+
 ghost use Rattle.std.specs.Prelude.{◌≡◌, ℕ, ◌*◌, ◌≤◌, ltb};
 ghost use Rattle.rules.specs.Logarithm.{greatest, squarings, g};
 ghost use Rattle.layout.specs.Sizes.{width_is};

@@ -1,4 +1,6 @@
 // A decision for each pollutant: open, or passed or failed with its engine.
+#![tactic(auto)]
+
 ghost use Rattle.std.specs.Prelude.{◌≡◌, cond, map};
 ghost use Rattle.rules.specs.Series.{pair_of};
 ghost use Rattle.columns.specs.Columns.{up_to};

@@ -1,4 +1,6 @@
 // The refusal of a record that declares a pollutant: 3 to 7 and 12.
+#![tactic(auto)]
+
 ghost use Rattle.std.specs.Prelude.{◌≡◌};
 ghost use Rattle.declarations.specs.Declarations.{pollutant_by_lem, pollutant_fault_lem};
 

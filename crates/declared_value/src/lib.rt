@@ -1,4 +1,6 @@
 // Whether a declared carbon dioxide value stands against its tests, and the approval value where it does not: document 02, F-4 (004, 6.5).
+#![tactic(auto)]
+
 ghost use Rattle.std.specs.Prelude.{◌≡◌, get_or};
 ghost use Rattle.rules.specs.DeclaredValue as rules;
 ghost use Rattle.declared_value.specs.Approvals.{approval_is};

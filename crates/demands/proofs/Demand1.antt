@@ -29,9 +29,9 @@ module _ (w q : ℕ) where
   -- engine", and of 02, F-5, verdict 4 with ground 5: v, n, ground and the pairs, and only for a sheet that the check accepts
   abbrev pub Judged : List ℕ → Type 0
   Judged b =
-      (v : ℕ) × (n : ℕ) × (ground : ℕ) × (pairs : List Pair)
-      × (judge w q b ≡ judgement v n ground pairs) × (check w b ≡ accepted)
-      × (v ≤ 4) × (n ≤ last_row_lem (plan_of_sheet w b)) × (ground ≤ 5) × (length pairs ≡ w)
+      (v : ℕ) × (n : ℕ) × (grounds : ℕ) × (pairs : List Pair)
+      × (judge w q b ≡ judgement v n grounds pairs) × (check w b ≡ accepted)
+      × (v ≤ 4) × (n ≤ last_row_lem (plan_of_sheet w b)) × (grounds ≤ 5) × (length pairs ≡ w)
 
   -- "10, more engines than the last row"
   engines-fit : (b : List ℕ) → check w b ≡ accepted → engines_of w b ≤ last_row_lem (plan_of_sheet w b)
@@ -46,11 +46,11 @@ module _ (w q : ℕ) where
           let c : check w b ≡ refused number place = sym (judge-check w q b) ∙ ap check_in e in
           let r : RefusalIn (most w) (refused number place) = rw c at (check-range w b) in
           inl (number, place, e, c, r.0, r.1)
-      cases (judgement v n ground pairs) e =
+      cases (judgement v n grounds pairs) e =
           let c = judgement-accepted w q b e in
-          let r : JudgementIn w (engines_of w b) (judgement v n ground pairs) =
+          let r : JudgementIn w (engines_of w b) (judgement v n grounds pairs) =
           rw (sym (judge-accepted w q b c) ∙ e) at (judgement-range w q (records w b)) in
-          inr (v, n, ground, pairs, e, c, r.0, le_trans r.1 (engines-fit b c), r.2, r.3)
+          inr (v, n, grounds, pairs, e, c, r.0, le_trans r.1 (engines-fit b c), r.2, r.3)
 
 -- ---- as the product has it: four pollutants or six, twenty squarings
 

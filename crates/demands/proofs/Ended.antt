@@ -36,26 +36,26 @@ Final a = (v : ℕ) × (n : ℕ) × (v ≡ 0 → ⊥) × Says a v n
 
 pub data Ended : Series → Type 0 where
   passed-ended : (m : ℕ) (ss : List Standing) → Ended (passed m ss)
-  failed-ended : (m ground : ℕ) (ss : List Standing) → Ended (failed m ground ss)
+  failed-ended : (m grounds : ℕ) (ss : List Standing) → Ended (failed m grounds ss)
   referred-ended : (m : ℕ) (ss : List Standing) → Ended (referred m ss)
   held-ended : (m : ℕ) (ss : List Standing) → Ended (held m ss)
 
 ended-stays : {s : Series} (plan : Plan) (ps : List Pollutant) (vs : List Record) (q n : ℕ) (first : List Record) → Ended s
     → walk plan ps vs q n first s ≡ s
 ended-stays plan ps vs q n first (passed-ended m ss) = refl
-ended-stays plan ps vs q n first (failed-ended m ground ss) = refl
+ended-stays plan ps vs q n first (failed-ended m grounds ss) = refl
 ended-stays plan ps vs q n first (referred-ended m ss) = refl
 ended-stays plan ps vs q n first (held-ended m ss) = refl
 
 ended-answers : {s : Series} (w : ℕ) (stop stop' : Bool) (n n' : ℕ) → Ended s → answer w stop n s ≡ answer w stop' n' s
 ended-answers w stop stop' n n' (passed-ended m ss) = refl
-ended-answers w stop stop' n n' (failed-ended m ground ss) = refl
+ended-answers w stop stop' n n' (failed-ended m grounds ss) = refl
 ended-answers w stop stop' n n' (referred-ended m ss) = refl
 ended-answers w stop stop' n n' (held-ended m ss) = refl
 
 ended-final : {s : Series} (w : ℕ) (stop : Bool) (n : ℕ) → Ended s → Final (answer w stop n s)
 ended-final w stop n (passed-ended m ss) = (1, m, λ z. omega arith, (1, pairs w ss, refl))
-ended-final w stop n (failed-ended m ground ss) = (2, m, λ z. omega arith, (ground, pairs w ss, refl))
+ended-final w stop n (failed-ended m grounds ss) = (2, m, λ z. omega arith, (grounds, pairs w ss, refl))
 ended-final w stop n (referred-ended m ss) = (3, m, λ z. omega arith, (4, pairs w ss, refl))
 ended-final w stop n (held-ended m ss) = (4, m, λ z. omega arith, (5, pairs w ss, refl))
 
@@ -63,7 +63,7 @@ ended-final w stop n (held-ended m ss) = (4, m, λ z. omega arith, (5, pairs w s
 final-ended : (w n : ℕ) (s : Series) → Final (answer w false n s) → Ended s
 final-ended w n (ongoing ss) d = let e = d.3.2 in let z : d.0 ≡ 0 = cc in absurd (d.2 z)
 final-ended w n (passed m ss) d = passed-ended m ss
-final-ended w n (failed m ground ss) d = failed-ended m ground ss
+final-ended w n (failed m grounds ss) d = failed-ended m grounds ss
 final-ended w n (referred m ss) d = referred-ended m ss
 final-ended w n (held m ss) d = held-ended m ss
 
@@ -195,7 +195,7 @@ walk-last : (plan : Plan) (ps : List Pollutant) (vs : List Record) (q : ℕ) (fi
     → Ended (walk plan ps vs q (last_row_lem plan) first s)
 walk-last plan ps vs q first (ongoing ss) = row-ended plan ps vs q first ss
 walk-last plan ps vs q first (passed m ss) = passed-ended m ss
-walk-last plan ps vs q first (failed m ground ss) = failed-ended m ground ss
+walk-last plan ps vs q first (failed m grounds ss) = failed-ended m grounds ss
 walk-last plan ps vs q first (referred m ss) = referred-ended m ss
 walk-last plan ps vs q first (held m ss) = held-ended m ss
 

@@ -65,7 +65,7 @@ pub record FirstPendingRow (es : List Record) (m : ℕ) : Type 0 where
 abbrev HeldSo : (es : List Record) → (n : ℕ) → Series → Type 0
 HeldSo es n (ongoing ss) = 3 ≤ n → any waits (take n es) ≡ false
 HeldSo es n (passed m ss) = Unit {0}
-HeldSo es n (failed m ground ss) = Unit {0}
+HeldSo es n (failed m grounds ss) = Unit {0}
 HeldSo es n (referred m ss) = Unit {0}
 HeldSo es n (held m ss) = FirstPendingRow es m
 
@@ -93,7 +93,7 @@ module _ (plan : Plan) (ps : List Pollutant) (vs : List Record) (q : ℕ) (es : 
       let first : List Record = take (suc n) es in
       row-so n (before_row plan ps (suc n) first) (before-tells plan ps (suc n) first (caused-cut (is_in_service plan) ps (suc n) es c).0) h ss
   walk-so n (passed m ss) h = tt
-  walk-so n (failed m ground ss) h = tt
+  walk-so n (failed m grounds ss) h = tt
   walk-so n (referred m ss) h = tt
   walk-so n (held m ss) h = h
 
@@ -107,12 +107,12 @@ module _ (plan : Plan) (ps : List Pollutant) (vs : List Record) (q : ℕ) (es : 
 -- an answer with the verdict 4 is that of a held series
 held-answer : (w : ℕ) (stop : Bool) (n m : ℕ) (es : List Record) (s : Series) → HeldSo es n s → Says (answer w stop n s) 4 m
     → FirstPendingRow es m × ((ps : List Pair) × (answer w stop n s ≡ judgement 4 m 5 ps))
-held-answer w true n m es (ongoing ss) p (ground, ps, e) = absurd (let z : ◌≡◌ {A = ℕ} 2 4 = cc in omega arith)
-held-answer w false n m es (ongoing ss) p (ground, ps, e) = absurd (let z : ◌≡◌ {A = ℕ} 0 4 = cc in omega arith)
-held-answer w stop n m es (passed k ss) p (ground, ps, e) = absurd (let z : ◌≡◌ {A = ℕ} 1 4 = cc in omega arith)
-held-answer w stop n m es (failed k o ss) p (ground, ps, e) = absurd (let z : ◌≡◌ {A = ℕ} 2 4 = cc in omega arith)
-held-answer w stop n m es (referred k ss) p (ground, ps, e) = absurd (let z : ◌≡◌ {A = ℕ} 3 4 = cc in omega arith)
-held-answer w stop n m es (held k ss) p (ground, ps, e) = let z : k ≡ m = cc in (rw z at p, (pairs w ss, rw z refl))
+held-answer w true n m es (ongoing ss) p (grounds, ps, e) = absurd (let z : ◌≡◌ {A = ℕ} 2 4 = cc in omega arith)
+held-answer w false n m es (ongoing ss) p (grounds, ps, e) = absurd (let z : ◌≡◌ {A = ℕ} 0 4 = cc in omega arith)
+held-answer w stop n m es (passed k ss) p (grounds, ps, e) = absurd (let z : ◌≡◌ {A = ℕ} 1 4 = cc in omega arith)
+held-answer w stop n m es (failed k o ss) p (grounds, ps, e) = absurd (let z : ◌≡◌ {A = ℕ} 2 4 = cc in omega arith)
+held-answer w stop n m es (referred k ss) p (grounds, ps, e) = absurd (let z : ◌≡◌ {A = ℕ} 3 4 = cc in omega arith)
+held-answer w stop n m es (held k ss) p (grounds, ps, e) = let z : k ≡ m = cc in (rw z at p, (pairs w ss, rw z refl))
 
 module _ (w q : ℕ) (b : List ℕ) where
   answered : (h : Held w q b) → FirstPendingRow (engines (records w b)) h.0 × ((ps : List Pair) × (judge w q b ≡ judgement 4 h.0 5 ps))

@@ -61,7 +61,7 @@ record StandingLe (Known : (p : ℕ) → Type 0) (second first : Standing) : Typ
 data SeriesLe (Known : (p : ℕ) → Type 0) : (second first : Series) → Type 0 where
   ahead : {k : ℕ} {ss : List Standing} {s : Series} → SeriesLe Known (passed k ss) s
   abreast : {ss ts : List Standing} → Pairs (StandingLe Known) ss ts → SeriesLe Known (ongoing ss) (ongoing ts)
-  behind : {k ground : ℕ} {ts : List Standing} {s : Series} → SeriesLe Known s (failed k ground ts)
+  behind : {k grounds : ℕ} {ts : List Standing} {s : Series} → SeriesLe Known s (failed k grounds ts)
 
 settle-lower : {Known : (p : ℕ) → Type 0} {ss ts : List Standing} (n : ℕ) → Pairs (StandingLe Known) ss ts → SeriesLe Known (settle n ss) (settle n ts)
 unfolding settle
@@ -126,7 +126,7 @@ unlooked-lower (c ∷ ps) h =
 
 -- ---- the answers, "by a row or by a stop"
 
-verdicts : {v n ground v' n' ground' : ℕ} {ps ps' : List Pair} → judgement v n ground ps ≡ judgement v' n' ground' ps' → (v ≡ v' → ⊥) → ⊥
+verdicts : {v n grounds v' n' grounds' : ℕ} {ps ps' : List Pair} → judgement v n grounds ps ≡ judgement v' n' grounds' ps' → (v ≡ v' → ⊥) → ⊥
 verdicts e d = d (cc)
 
 -- what has ended after m engines has ended by then, and stays
@@ -141,15 +141,15 @@ passed-second : {Known : (p : ℕ) → Type 0} {s : Series} {n : ℕ} {ts : List
     → (k : ℕ) × (ss : List Standing) × (s ≡ passed k ss)
 passed-second (ahead {k} {ss}) = (k, ss, refl)
 
-failed-first : {Known : (p : ℕ) → Type 0} {t : Series} {n ground : ℕ} {ss : List Standing} → SeriesLe Known (failed n ground ss) t
-    → (k : ℕ) × (ground' : ℕ) × (ts : List Standing) × (t ≡ failed k ground' ts)
-failed-first (behind {k} {ground} {ts}) = (k, ground, ts, refl)
+failed-first : {Known : (p : ℕ) → Type 0} {t : Series} {n grounds : ℕ} {ss : List Standing} → SeriesLe Known (failed n grounds ss) t
+    → (k : ℕ) × (grounds' : ℕ) × (ts : List Standing) × (t ≡ failed k grounds' ts)
+failed-first (behind {k} {grounds} {ts}) = (k, grounds, ts, refl)
 
 -- where a stop fails the second, it fails the first too, if that has not failed
 stopped-first : {Known : (p : ℕ) → Type 0} {t : Series} {ss : List Standing} (w n m : ℕ) → m ≤ n → DecidedAt m t → SeriesLe Known (ongoing ss) t
     → SaysBy (answer w true n t) 2 n
 stopped-first w n m l d (abreast {ss} {ts} h) = (n, omega arith, (3, pairs w ts, refl))
-stopped-first w n m l d (behind {k} {ground} {ts}) = (k, omega (arith, d), (ground, pairs w ts, refl))
+stopped-first w n m l d (behind {k} {grounds} {ts}) = (k, omega (arith, d), (grounds, pairs w ts, refl))
 
 module _ {plan : Plan} {vs us es fs : List Record} (w q : ℕ) (falling : Falling plan) (ps : List Pollutant)
     (lower : (p : ℕ) → declares ps p ≡ true → LowerAt vs us es fs p) where
@@ -165,7 +165,7 @@ module _ {plan : Plan} {vs us es fs : List Record} (w q : ℕ) (falling : Fallin
           → SaysBy (answer w stop n (after plan ps us q fs n)) 1 m
       by true (ongoing ts) e a = absurd (verdicts a (λ z. omega arith))
       by false (ongoing ts) e a = absurd (verdicts a (λ z. omega arith))
-      by stop (failed o ground ts) e a = absurd (verdicts a (λ z. omega arith))
+      by stop (failed o grounds ts) e a = absurd (verdicts a (λ z. omega arith))
       by stop (referred o ts) e a = absurd (verdicts a (λ z. omega arith))
       by stop (held o ts) e a = absurd (verdicts a (λ z. omega arith))
       by stop (passed o ts) e a =
@@ -189,7 +189,7 @@ module _ {plan : Plan} {vs us es fs : List Record} (w q : ℕ) (falling : Fallin
       by stop (passed o ts) e a = absurd (verdicts a (λ z. omega arith))
       by stop (referred o ts) e a = absurd (verdicts a (λ z. omega arith))
       by stop (held o ts) e a = absurd (verdicts a (λ z. omega arith))
-      by stop (failed o ground ts) e a =
+      by stop (failed o grounds ts) e a =
           let made = rw e at (after-made plan us q ps fs n) in
           let f = failed-first (rw made.3 at (after_lower made.0)) in
           let b = ended_by_lem plan ps vs q es made.0 n made.1 f.3 (failed-ended f.0 f.1 f.2) in

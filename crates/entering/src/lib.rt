@@ -1,4 +1,6 @@
 // Enters the finding of a vehicle whose cause was sought: 02, F-5.
+#![tactic(auto)]
+
 ghost use Rattle.std.specs.Prelude.{◌≡◌};
 ghost use Rattle.rules.specs.Findings.{enter_sized, entered_sized};
 ghost use Rattle.layout.specs.Sizes.{width_is};

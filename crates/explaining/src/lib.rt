@@ -1,4 +1,6 @@
 // What the program `verdict` says to people of a refused sheet of 20-byte records: which record it is, and what the refusal means.
+#![tactic(auto)]
+
 ghost use Rattle.std.specs.Prelude.{◌≡◌, suc};
 ghost use Rattle.lines.specs.Writing.{with_bytes, Adds, Written};
 ghost use Rattle.explaining.specs.Sentences.{line_of, sentence};

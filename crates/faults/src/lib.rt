@@ -1,4 +1,6 @@
 // The refusal number of a record, given what the records before it say: the first in the order of the refusals. 0: the record has no fault.
+#![tactic(auto)]
+
 ghost use Rattle.std.specs.Prelude.{◌≡◌};
 ghost use Rattle.summary.specs.State.{Limits};
 ghost use Rattle.faults.specs.Faults.{engine_fault_lem, stop_fault_lem, unmeasured_fault_lem, fault_by};

@@ -96,7 +96,7 @@ module _ (ps : List Pollutant) (vs : List Record) (q : ℕ) (us : List Record) {
   walk_kept : (n : ℕ) (s t : Series) → Kept s t → Kept (walk in_service_lem ps vs q n (take n es) s) (walk in_service_lem ps vs q n (take n fs) t)
   walk_kept n (ongoing ss) t (inl e) = rw e (row_kept n ss)
   walk_kept n (passed m ss) t (inl e) = rw e (inl refl)
-  walk_kept n (failed m ground ss) t (inl e) = rw e (inl refl)
+  walk_kept n (failed m grounds ss) t (inl e) = rw e (inl refl)
   walk_kept n (referred m ss) t (inl e) = rw e (inl refl)
   walk_kept n (held m ss) t (inl e) = rw e (inl refl)
   walk_kept n s t (inr h) = rw h.2 (inr (h.0, h.1, refl))

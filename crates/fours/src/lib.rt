@@ -1,5 +1,7 @@
 // The logarithms of a column four at a time: the limit's and those of engines 1 to 3, then those of four engines after four.
 // For `statistics` alone, with a column of an accepted sheet: so they may require.
+#![tactic(auto)]
+
 ghost use Rattle.std.specs.Prelude.{◌≡◌, ◌+◌};
 ghost use Rattle.layout.specs.Sizes.{width_is};
 ghost use Rattle.fours.specs.Fours.{measured_or, four_from, Logs};

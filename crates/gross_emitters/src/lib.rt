@@ -1,4 +1,6 @@
 // Refusal 9: which vehicles are gross emitters, and the cause of each.
+#![tactic(auto)]
+
 ghost use Rattle.std.specs.Prelude.{◌≡◌};
 ghost use Rattle.rules.specs.Sheet.{measurement};
 ghost use Rattle.summary.specs.State.{LimitRange, Limits};

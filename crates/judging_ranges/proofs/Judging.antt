@@ -30,7 +30,7 @@ use Rattle.judging_ranges.specs.Ranges.{NumbersIs, BothValid}
 -- an answer is the same but for its pairs
 of-pairs : (k : ℕ) (n : Numbers) (a : Answer) (pairs : List Pair) → numbers_answer n pairs ≡ open_pairs k a → (own : List Pair) × (a ≡ numbers_answer n own)
 of-pairs k n (refusal number place) pairs e = let z : true ≡ false = cc in never z
-of-pairs k n (judgement verdict engine ground own) pairs e = (own, cc)
+of-pairs k n (judgement verdict engine grounds own) pairs e = (own, cc)
 
 pub numbers-are : {z : Size} {b : List ℕ} {s : Summary} → Valid z b s → {j : Judgement} → JudgementIs (width_is z) b j → {n : Numbers} → n ≡ numbers_of_lem j.verdict
     → NumbersIs (width_is z) b n

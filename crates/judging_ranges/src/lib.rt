@@ -1,4 +1,6 @@
 // Measurements known within a range: 02, F-8. What a low and a high sheet say of every sheet between them.
+#![tactic(auto)]
+
 ghost use Rattle.std.specs.Prelude.{◌≡◌};
 ghost use Rattle.rules.specs.Logarithm.{squarings};
 ghost use Rattle.rules.specs.Refusals.{accepted};

@@ -1,4 +1,6 @@
 // The two sizes of a record: by the size a sheet is cut into records, and it tells how long a sheet and how many pollutants there may be.
+#![tactic(auto)]
+
 ghost use Rattle.std.specs.Prelude.{◌≡◌, ◌*◌, ◌/◌, ◌%◌};
 ghost use Rattle.rules.specs.Sheet.{size, most};
 ghost use Rattle.layout.specs.Sizes.{width_is, name_of};

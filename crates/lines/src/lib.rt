@@ -1,4 +1,6 @@
 // The text of a program's answer in the making: lines of bytes, written one behind another.
+#![tactic(auto)]
+
 ghost use Rattle.std.specs.Prelude.{◌≡◌};
 ghost use Rattle.rules.specs.Printed.{decimal};
 ghost use Rattle.lines.specs.Writing.{nothing, with_byte_lem, with_bytes, Adds};

@@ -1,4 +1,6 @@
 // Document 01, "The logarithm", with the twenty steps of 02, F-9: g of a limit or a measurement, in whole numbers alone, the same on every machine.
+#![tactic(auto)]
+
 ghost use Rattle.std.specs.Prelude.{◌≡◌};
 ghost use Rattle.rules.specs.Logarithm.{g, squarings};
 ghost use Rattle.logarithm.specs.Four.{Measured, FourRanges, logarithms_of};

@@ -1,4 +1,6 @@
 // "8, measurement", of a record that holds measurements: an engine, or run-in values.
+#![tactic(auto)]
+
 ghost use Rattle.std.specs.Prelude.{◌≡◌};
 ghost use Rattle.rules.specs.Sheet.{measurement};
 ghost use Rattle.measurements.specs.Measurements.{bad_value_by, bad_measurement_by, bad_behind_lem};

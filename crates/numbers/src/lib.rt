@@ -1,4 +1,6 @@
 // Numbers of one, two and four bytes, the lowest byte first. In the functions that ask for the length a byte past the end counts as 0.
+#![tactic(auto)]
+
 ghost use Rattle.std.specs.Prelude.{◌≡◌, ◌<◌, length};
 ghost use Rattle.rules.specs.Tools.{byte, two, four};
 ghost use Rattle.numbers.specs.Ranges.{ByteRange, PlaceRange};

@@ -1,4 +1,6 @@
 // What an operation that writes into lent memory comes to.
+#![tactic(auto)]
+
 ghost use Rattle.std.specs.Prelude.{◌≡◌};
 ghost use Rattle.outcomes.specs.Outcomes.{outcome_is, check_is};
 

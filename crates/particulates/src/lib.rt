@@ -1,4 +1,6 @@
 // The particulate limit of production, which depends on an engine's size and on the date of the test: document 02, F-1.
+#![tactic(auto)]
+
 ghost use Rattle.std.specs.Prelude.{◌≡◌};
 ghost use Rattle.rules.specs.Refusals.{particulate_limit_lem};
 

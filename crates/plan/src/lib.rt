@@ -1,4 +1,6 @@
 // The plans of documents 01 and 02, each with its number and its last row.
+#![tactic(auto)]
+
 ghost use Rattle.std.specs.Prelude.{◌≡◌};
 ghost use Rattle.rules.specs.Plans.{plan_of, last_row_lem};
 ghost use Rattle.plan.specs.Plan.{plan_is};

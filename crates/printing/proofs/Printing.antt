@@ -30,7 +30,7 @@ within q h f = at_most q h (omega (arith, h.few))
 -- an answer with its first w pairs
 abbrev first_pairs : (w : ℕ) → Answer → Answer
 first_pairs w (refusal number place) = refusal number place
-first_pairs w (judgement verdict engine ground pairs) = judgement verdict engine ground (take w pairs)
+first_pairs w (judgement verdict engine grounds pairs) = judgement verdict engine grounds (take w pairs)
 
 -- of an answer with open pairs behind its own, these are its own
 own-pairs : (w k q : ℕ) (b : List ℕ) → first_pairs w (open_pairs k (judge w q b)) ≡ judge w q b

@@ -1,4 +1,6 @@
 // The lines that the program `verdict` prints for a sheet: document 01, "Series that stand on a line".
+#![tactic(auto)]
+
 ghost use Rattle.std.specs.Prelude.{[], ◌∷◌, ◌+◌, length};
 ghost use Rattle.rules.specs.Logarithm.{squarings};
 ghost use Rattle.rules.specs.Sheet.{pollutants};

@@ -1,4 +1,6 @@
 // For tests alone: what of the library a program in C has no entry to, under the same contracts.
+#![tactic(auto)]
+
 ghost use Rattle.std.specs.Prelude.{◌≡◌, length};
 ghost use Rattle.rules.specs.Logarithm.{squarings, g};
 ghost use Rattle.rules.specs.Sheet.{pollutants};

@@ -24,28 +24,28 @@ use Rattle.ranges.proofs.Accepting.{between-checked}
 
 fails-only : (l : Answer) (n : ℕ) → fails_or l depends ≡ passes_surely n → ⊥
 fails-only (refusal number place) n e = let z : true ≡ false = cc in never z
-fails-only (judgement v m ground pairs) n e =
+fails-only (judgement v m grounds pairs) n e =
     by-test (λ t. cond t (fails_surely m) depends ≡ passes_surely n → ⊥) (eqb v 2) (λ h f. let z : true ≡ false = cc in never z) (λ h f. let z : true ≡ false = cc in never z) e
 
 pass-says : (h l : Answer) (n : ℕ) → passes_or h (fails_or l depends) ≡ passes_surely n → Says h 1 n
 pass-says (refusal number place) l n e = let z : true ≡ false = cc in never z
-pass-says (judgement v m ground pairs) l n e =
-    by-test (λ t. cond t (passes_surely m) (fails_or l depends) ≡ passes_surely n → Says (judgement v m ground pairs) 1 n) (eqb v 1)
-    (λ t f. let i : m ≡ n = cc in (ground, pairs, rw (eqb-true v 1 t, i) refl)) (λ t f. absurd (fails-only l n f)) e
+pass-says (judgement v m grounds pairs) l n e =
+    by-test (λ t. cond t (passes_surely m) (fails_or l depends) ≡ passes_surely n → Says (judgement v m grounds pairs) 1 n) (eqb v 1)
+    (λ t f. let i : m ≡ n = cc in (grounds, pairs, rw (eqb-true v 1 t, i) refl)) (λ t f. absurd (fails-only l n f)) e
 
 says-pass : (h l : Answer) (n : ℕ) → Says h 1 n → passes_or h (fails_or l depends) ≡ passes_surely n
 says-pass h l n s = rw s.2 refl
 
 fail-says : (h l : Answer) (n : ℕ) → passes_or h (fails_or l depends) ≡ fails_surely n → Says l 2 n
 fail-says (refusal number place) l n e = let z : true ≡ false = cc in never z
-fail-says (judgement v m ground pairs) l n e =
+fail-says (judgement v m grounds pairs) l n e =
     by-test (λ t. cond t (passes_surely m) (fails_or l depends) ≡ fails_surely n → Says l 2 n) (eqb v 1) (λ t f. let z : true ≡ false = cc in never z) (λ t. cases l) e
   where
     cases : (l : Answer) → fails_or l depends ≡ fails_surely n → Says l 2 n
     cases (refusal number place) f = let z : true ≡ false = cc in never z
-    cases (judgement u k ground pairs) f =
-        by-test (λ t. cond t (fails_surely k) depends ≡ fails_surely n → Says (judgement u k ground pairs) 2 n) (eqb u 2)
-        (λ t f. let i : k ≡ n = cc in (ground, pairs, rw (eqb-true u 2 t, i) refl)) (λ t f. let z : true ≡ false = cc in never z) f
+    cases (judgement u k grounds pairs) f =
+        by-test (λ t. cond t (fails_surely k) depends ≡ fails_surely n → Says (judgement u k grounds pairs) 2 n) (eqb u 2)
+        (λ t f. let i : k ≡ n = cc in (grounds, pairs, rw (eqb-true u 2 t, i) refl)) (λ t f. let z : true ≡ false = cc in never z) f
 
 -- a high sheet that fails does not pass
 says-fail : (h l : Answer) (m n : ℕ) → Says h 2 m → Says l 2 n → passes_or h (fails_or l depends) ≡ fails_surely n

@@ -1,5 +1,7 @@
 // "A sheet under reading is the lent bytes and the number of the next record": a struct over the slice, with the size of its records, and few functions over it.
 // Each takes the struct apart and leaves the work to a function on size, slice and number.
+#![tactic(auto)]
+
 ghost use Rattle.std.specs.Prelude.{◌≡◌};
 ghost use Rattle.reading.specs.Steps.{measurements_in, whole_records_lem, step_at_lem, left_at_lem, next_at, reader, advanced, turn_at_lem};
 

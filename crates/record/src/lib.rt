@@ -1,4 +1,6 @@
 // The fields of a record, by document 01's "The sheet". A byte past the record's end counts as 0.
+#![tactic(auto)]
+
 ghost use Rattle.std.specs.Prelude.{◌≡◌, cond, ◌<◌, length};
 ghost use Rattle.rules.specs.Sheet.{kind, number, plan, limit, deviation, cause, measurement};
 ghost use Rattle.accepted.specs.Sheets.{record_at_lem};

@@ -29,7 +29,7 @@ judged-check (judged.Refused r) = refl
 
 check-of : (w : ℕ) (a : Answer) → check_in (six_pairs w a) ≡ check_in a
 check-of w (refusal number place) = refl
-check-of w (judgement verdict engine ground pairs) = refl
+check-of w (judgement verdict engine grounds pairs) = refl
 
 -- ---- the report with six pairs begins with that of the sheet's size
 

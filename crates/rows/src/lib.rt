@@ -1,6 +1,8 @@
 // A row of each plan: "A row gives pass, fail or open", "pass is tested first".
 //
 // Each returns as soon as the row is known: what is an argument is computed before the call, needed or not.
+#![tactic(auto)]
+
 ghost use Rattle.std.specs.Prelude.{◌≡◌, cond, not, ◌&&◌, ◌||◌, ◌+◌, ◌-◌, ◌*◌, eqb, ltb, pos, nat_abs, ◌-ℤ◌};
 ghost use Rattle.std.specs.Int.Signed.{lt_z};
 ghost use Rattle.rules.specs.Logarithm.{squarings};

@@ -8,7 +8,7 @@ use Rattle.rules.specs.Operations.{judge}
 
 -- the answer is the verdict v at the engine n, whatever its ground and pairs
 abbrev pub Says : Answer → (v n : ℕ) → Type 0
-Says a v n = (ground : ℕ) × (pairs : List Pair) × (a ≡ judgement v n ground pairs)
+Says a v n = (grounds : ℕ) × (pairs : List Pair) × (a ≡ judgement v n grounds pairs)
 
 -- "and at n or sooner if that engine is at most n"
 abbrev pub SaysBy : Answer → (v n : ℕ) → Type 0

@@ -24,7 +24,7 @@ through w n b = take (size w * (length (heading (records w b)) + n)) b
 -- undecided" (02, F-5): the ground tells which
 abbrev pub evidence_by : (w : ℕ) → Answer → List ℕ → List ℕ
 evidence_by w (refusal number place) b = []
-evidence_by w (judgement verdict n ground pairs) b = cond (eqb ground 1 || eqb ground 2) (through w n b) b
+evidence_by w (judgement verdict n grounds pairs) b = cond (eqb grounds 1 || eqb grounds 2) (through w n b) b
 
 -- "Evidence hands back the part of the sheet from its start"; "as judge, with an empty part"
 unfoldable pub evidence : (w q : ℕ) → List ℕ → List ℕ
@@ -73,7 +73,7 @@ pair_bytes (pair decision engine ∷ ps) = decision ∷ engine ∷ pair_bytes ps
 -- "16 as the mark of a report, verdict, ground, engine, four pairs of decision and engine, pollutant 1 first, eight zeros"
 abbrev pub report_bytes : (w : ℕ) → Answer → List ℕ
 report_bytes w (refusal number place) = []
-report_bytes w (judgement verdict engine ground pairs) = 16 ∷ verdict ∷ ground ∷ engine ∷ (pair_bytes pairs ++ replicate (2 * w) 0)
+report_bytes w (judgement verdict engine grounds pairs) = 16 ∷ verdict ∷ grounds ∷ engine ∷ (pair_bytes pairs ++ replicate (2 * w) 0)
 
 -- "15, output under 20 bytes, record 0; then as judge"
 unfoldable pub report : (w : ℕ) → (b o : List ℕ) → Check

@@ -55,8 +55,8 @@ pollutant_lines ps p (x ∷ pairs) = pollutant_line (declares ps p) p x ++ pollu
 -- "Line 1: verdict word .., engine, ground"; "A refusal prints `refused`, number, record."
 abbrev pub printed_by : Answer → List Pollutant → List ℕ
 printed_by (refusal number place) ps = line (refused_word ∷ decimal number ∷ decimal place ∷ [])
-printed_by (judgement verdict engine ground pairs) ps =
-    line (verdict_word verdict ∷ decimal engine ∷ decimal ground ∷ []) ++ pollutant_lines ps 1 pairs
+printed_by (judgement verdict engine grounds pairs) ps =
+    line (verdict_word verdict ∷ decimal engine ∷ decimal grounds ∷ []) ++ pollutant_lines ps 1 pairs
 
 -- the lines for the bytes of a sheet
 unfoldable pub printed : (w q : ℕ) → List ℕ → List ℕ

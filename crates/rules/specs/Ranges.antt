@@ -69,11 +69,11 @@ pub data RangeAnswer : Type 0 where
 -- (Proved in crate `ranges`, with "exactly when".)
 abbrev pub fails_or : (low : Answer) → (otherwise : RangeAnswer) → RangeAnswer
 fails_or (refusal number place) otherwise = turned_away number place
-fails_or (judgement verdict engine ground pairs) otherwise = cond (eqb verdict 2) (fails_surely engine) otherwise
+fails_or (judgement verdict engine grounds pairs) otherwise = cond (eqb verdict 2) (fails_surely engine) otherwise
 
 abbrev pub passes_or : (high : Answer) → (otherwise : RangeAnswer) → RangeAnswer
 passes_or (refusal number place) otherwise = turned_away number place
-passes_or (judgement verdict engine ground pairs) otherwise = cond (eqb verdict 1) (passes_surely engine) otherwise
+passes_or (judgement verdict engine grounds pairs) otherwise = cond (eqb verdict 1) (passes_surely engine) otherwise
 
 abbrev pub range_by : Check → (low high : Answer) → RangeAnswer
 range_by accepted low high = passes_or high (fails_or low depends)

@@ -20,7 +20,7 @@ pub record Standing : Type 0 where
 pub data Series : Type 0 where
   ongoing : List Standing → Series
   passed : (engine : ℕ) → List Standing → Series
-  failed : (engine ground : ℕ) → List Standing → Series
+  failed : (engine grounds : ℕ) → List Standing → Series
   referred : (engine : ℕ) → List Standing → Series
   held : (engine : ℕ) → List Standing → Series
 
@@ -126,7 +126,7 @@ row_by statistics plan vs q n first ss = settle n (map (look plan vs q n first) 
 abbrev pub walk : Plan → List Pollutant → (run_ins : List Record) → (q n : ℕ) → (first : List Record) → Series → Series
 walk plan ps vs q n first (ongoing ss) = row_by (before_row plan ps n first) plan vs q n first ss
 walk plan ps vs q n first (passed m ss) = passed m ss
-walk plan ps vs q n first (failed m ground ss) = failed m ground ss
+walk plan ps vs q n first (failed m grounds ss) = failed m grounds ss
 walk plan ps vs q n first (referred m ss) = referred m ss
 walk plan ps vs q n first (held m ss) = held m ss
 
@@ -162,12 +162,12 @@ pairs w ss = map (λ p. pair_of (decision_of p ss)) (numbers w)
 -- `held`, at that row with ground 5"
 pub data Answer : Type 0 where
   refusal : (number place : ℕ) → Answer
-  judgement : (verdict engine ground : ℕ) → List Pair → Answer
+  judgement : (verdict engine grounds : ℕ) → List Pair → Answer
 
 -- "A stop on an undecided series fails it at the engines tested, also below 3. Otherwise: another."
 abbrev pub answer : (w : ℕ) → (stop : Bool) → (tested : ℕ) → Series → Answer
 answer w stop n (passed m ss) = judgement 1 m 1 (pairs w ss)
-answer w stop n (failed m ground ss) = judgement 2 m ground (pairs w ss)
+answer w stop n (failed m grounds ss) = judgement 2 m grounds (pairs w ss)
 answer w stop n (referred m ss) = judgement 3 m 4 (pairs w ss)
 answer w stop n (held m ss) = judgement 4 m 5 (pairs w ss)
 answer w true n (ongoing ss) = judgement 2 n 3 (pairs w ss)

@@ -48,4 +48,4 @@ reported_sized s q b o = sized s o (λ w. reported w q b o)
 -- an answer with k more pairs, all open
 abbrev pub open_pairs : (k : ℕ) → Answer → Answer
 open_pairs k (refusal number place) = refusal number place
-open_pairs k (judgement verdict engine ground pairs) = judgement verdict engine ground (pairs ++ replicate k (pair 0 0))
+open_pairs k (judgement verdict engine grounds pairs) = judgement verdict engine grounds (pairs ++ replicate k (pair 0 0))

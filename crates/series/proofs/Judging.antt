@@ -45,7 +45,7 @@ module _ (w : ℕ) (b : List ℕ) {n p : ℕ} (h : check w b ≡ refused n p) wh
 -- evidence and engine ask for no pair
 no-pair : (w k : ℕ) (a : rules.Answer) (b : List ℕ) → (evidence_by w (open_pairs k a) b ≡ evidence_by w a b) × (engine_in (open_pairs k a) ≡ engine_in a)
 no-pair w k (rules.refusal number place) b = (refl, refl)
-no-pair w k (rules.judgement verdict engine ground pairs) b = (refl, refl)
+no-pair w k (rules.judgement verdict engine grounds pairs) b = (refl, refl)
 
 module _ {z : Size} {b : List ℕ} {s : Summary} (v : Valid z b s) {j : Judgement} (is : JudgementIs (width_is z) b j) where
   abbrev w : ℕ

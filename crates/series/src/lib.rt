@@ -1,4 +1,6 @@
 // The series: what judging answers for the bytes of a sheet, and its evidence.
+#![tactic(auto)]
+
 ghost use Rattle.std.specs.Prelude.{◌≡◌};
 ghost use Rattle.rules.specs.Logarithm.{squarings};
 ghost use Rattle.rules.specs.Operations as rules;

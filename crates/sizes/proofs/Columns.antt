@@ -60,7 +60,7 @@ undeclared-above w (c ∷ ps) e p h =
 abbrev standings_of : Series → List Standing
 standings_of (ongoing ss) = ss
 standings_of (passed n ss) = ss
-standings_of (failed n ground ss) = ss
+standings_of (failed n grounds ss) = ss
 standings_of (referred n ss) = ss
 standings_of (held n ss) = ss
 
@@ -93,7 +93,7 @@ module _ (plan : Plan) (vs : List Record) (q : ℕ) where
     walk-pollutants : (n : ℕ) (first : List Record) (s : Series) → pollutants_of (standings_of (walk plan ps vs q n first s)) ≡ pollutants_of (standings_of s)
     walk-pollutants n first (ongoing ss) = row-pollutants (before_row plan ps n first) n first ss
     walk-pollutants n first (passed m ss) = refl
-    walk-pollutants n first (failed m ground ss) = refl
+    walk-pollutants n first (failed m grounds ss) = refl
     walk-pollutants n first (referred m ss) = refl
     walk-pollutants n first (held m ss) = refl
 
@@ -132,7 +132,7 @@ module _ (w : ℕ) where
   answer-columns : (k : ℕ) (stop : Bool) (n : ℕ) (s : Series) → above w (pollutants_of (standings_of s)) ≡ false
       → answer (w + k) stop n s ≡ open_pairs k (answer w stop n s)
   answer-columns k stop n (passed m ss) a = rw (pairs-columns k ss a) refl
-  answer-columns k stop n (failed m ground ss) a = rw (pairs-columns k ss a) refl
+  answer-columns k stop n (failed m grounds ss) a = rw (pairs-columns k ss a) refl
   answer-columns k stop n (referred m ss) a = rw (pairs-columns k ss a) refl
   answer-columns k stop n (held m ss) a = rw (pairs-columns k ss a) refl
   answer-columns k true n (ongoing ss) a = rw (pairs-columns k ss a) refl
@@ -152,8 +152,8 @@ pair-bytes (pair d e ∷ ps) k = ap (λ (l : List ℕ). d ∷ e ∷ l) (pair-byt
 pair-bytes [] zero = refl
 pair-bytes [] (suc k) = let e : 2 * suc k ≡ suc (suc (2 * k)) = omega arith in rw (e, pair-bytes [] k) refl
 
-pub report-columns : (w k : ℕ) (verdict engine ground : ℕ) (ps : List Pair)
-    → report_bytes (w + k) (open_pairs k (judgement verdict engine ground ps)) ≡ widened_record k (report_bytes w (judgement verdict engine ground ps))
+pub report-columns : (w k : ℕ) (verdict engine grounds : ℕ) (ps : List Pair)
+    → report_bytes (w + k) (open_pairs k (judgement verdict engine grounds ps)) ≡ widened_record k (report_bytes w (judgement verdict engine grounds ps))
 report-columns w k v n g ps =
     ap (λ (l : List ℕ). 16 ∷ v ∷ g ∷ n ∷ l)
     (ap (λ (l : List ℕ). l ++ replicate (2 * (w + k)) 0) (pair-bytes ps k)

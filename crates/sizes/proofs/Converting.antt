@@ -22,10 +22,10 @@ open-says k v n a s = (s.0, s.1 ++ replicate k (pair 0 0), ap (open_pairs k) s.2
 
 says-open : (k v n : ℕ) (a : Answer) → Says (open_pairs k a) v n → Says a v n
 says-open k v n (refusal number place) s = let z : true ≡ false = cc s.2 in never z
-says-open k v n (judgement v' n' ground ps) s =
+says-open k v n (judgement v' n' grounds ps) s =
     let e : v' ≡ v = cc s.2 in
     let f : n' ≡ n = cc s.2 in
-    (ground, ps, rw (e, f) refl)
+    (grounds, ps, rw (e, f) refl)
 
 module _ (w k q : ℕ) where
   -- ---- A sheet accepted at w: its widened form

@@ -231,7 +231,7 @@ module _ (plan : Plan) {vs us : List Record} (v : Pairs SameBytes vs us) (q : �
     same-walk : (n : ℕ) {es fs : List Record} → Pairs SameBytes es fs → (s : Series) → walk plan ps vs q n es s ≡ walk plan ps us q n fs s
     same-walk n {es} {fs} r (ongoing ss) = rw (same-before plan ps n r) (same_row (before_row plan ps n fs) n r ss)
     same-walk n r (passed m ss) = refl
-    same-walk n r (failed m ground ss) = refl
+    same-walk n r (failed m grounds ss) = refl
     same-walk n r (referred m ss) = refl
     same-walk n r (held m ss) = refl
 

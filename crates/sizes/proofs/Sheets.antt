@@ -110,8 +110,8 @@ module _ (w k : ℕ) (b : List ℕ) (e : check w b ≡ accepted) where
 
   evidence-widen : (a : Answer) → evidence_by (w + k) (open_pairs k a) (widen w k b) ≡ widen w k (evidence_by w a b)
   evidence-widen (refusal number place) = sym widen-nothing
-  evidence-widen (judgement v n ground ps) =
-      by-test (λ t. cond t (through (w + k) n (widen w k b)) (widen w k b) ≡ widen w k (cond t (through w n b) b)) (eqb ground 1 || eqb ground 2)
+  evidence-widen (judgement v n grounds ps) =
+      by-test (λ t. cond t (through (w + k) n (widen w k b)) (widen w k b) ≡ widen w k (cond t (through w n b) b)) (eqb grounds 1 || eqb grounds 2)
       (λ _. through-widen n) (λ _. refl)
 
   pub widen-evidence : (q : ℕ) → evidence (w + k) q (widen w k b) ≡ widen w k (evidence w q b)
@@ -128,8 +128,8 @@ module _ (w : ℕ) (b : List ℕ) (h : length b % size w ≡ 0) where
 
   whole_by : (a : Answer) → length (evidence_by w a b) % size w ≡ 0
   whole_by (refusal number place) = joined-whole w [] tt
-  whole_by (judgement v n ground ps) =
-      by-test (λ t. length (cond t (through w n b) b) % size w ≡ 0) (eqb ground 1 || eqb ground 2)
+  whole_by (judgement v n grounds ps) =
+      by-test (λ t. length (cond t (through w n b) b) % size w ≡ 0) (eqb grounds 1 || eqb grounds 2)
       (λ _. take_whole (length (heading (records w b)) + n)) (λ _. h)
 
   evidence-whole : (q : ℕ) → length (evidence w q b) % size w ≡ 0

@@ -1,4 +1,6 @@
 // The refusal of a record of kind 5, by document 02, F-1.
+#![tactic(auto)]
+
 ghost use Rattle.std.specs.Prelude.{◌≡◌};
 ghost use Rattle.rules.specs.Refusals.{bad_date_lem};
 ghost use Rattle.small_engines.specs.SmallEngines.{bad_particulate_by, small_engine_fault_lem};

@@ -1,4 +1,6 @@
 // A pollutant's column of the sheet: its limit, and its measurements engine after engine to the row that decides.
+#![tactic(auto)]
+
 ghost use Rattle.layout.specs.Sizes.{width_is};
 ghost use Rattle.statistics.specs.Column.{ColumnIs};
 ghost use Rattle.statistics.specs.Ranges.{ColumnRange};

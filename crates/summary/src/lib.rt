@@ -1,4 +1,6 @@
 // What the records before one say.
+#![tactic(auto)]
+
 ghost use Rattle.std.specs.Prelude.{◌≡◌};
 ghost use Rattle.summary.specs.State.{nothing, summary_with, misplaces_others_lem, misplaces_run_in_lem, Room};
 

@@ -1,5 +1,7 @@
 // The printed tables of the plans: each row of print on a line, its signs as printed, with its number behind it.
 // A caller takes the table of its plan and lends it to the rows, because an array that is a constant is built anew at each use.
+#![tactic(auto)]
+
 ghost use Rattle.std.specs.Prelude.{◌≡◌};
 ghost use Rattle.rules.specs.Plans as rules;
 ghost use Rattle.tables.specs.Tables.{table_of, PassNumbers, FailNumbers};

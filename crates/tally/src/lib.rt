@@ -1,4 +1,6 @@
 // The columns of an accepted sheet one after the other, each to the least failing row so far, and the verdict on them together.
+#![tactic(auto)]
+
 ghost use Rattle.std.specs.Prelude.{◌≡◌};
 ghost use Rattle.columns.specs.Tally.{counted};
 ghost use Rattle.layout.specs.Sizes.{width_is};

@@ -1,5 +1,7 @@
 // Reading and writing over a descriptor, so that a call which fails is never taken for the end.
 // The kit's `io` counts a call that fails or that a signal interrupts as the end: here such a call is tried again, or the whole fails.
+#![tactic(auto)]
+
 ghost use Rattle.std.specs.Prelude.{◌≡◌, length};
 ghost use Rattle.transfers.specs.Transfers.{answer, further, next, Place, Room, Over};
 

@@ -1,4 +1,6 @@
 // The range of values in thousandths: of limits and measurements, of what the logarithm is taken of, and of declared values and their tests.
+#![tactic(auto)]
+
 ghost use Rattle.std.specs.Prelude.{◌≡◌};
 ghost use Rattle.rules.specs.Tools.{any};
 ghost use Rattle.rules.specs.Logarithm.{outside};

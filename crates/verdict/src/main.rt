@@ -1,6 +1,8 @@
 // The program `verdict`: reads a sheet, writes its lines, and says what went wrong. Its input here is the example of document 01, "Series that stand on a line".
 //
 // No contract can say what a program reads or writes: that the transfer here is what `read` answered is to be seen in `read_full`.
+#![tactic(auto)]
+
 ghost use Rattle.std.specs.Prelude.{length};
 ghost use Rattle.lines.specs.Writing.{Kept};
 ghost use Rattle.verdict.specs.Input.{Whole};

@@ -1,4 +1,6 @@
 // Numbers of two words, for squares that exceed 64 bits: the whole product of two u64, and the order of two such numbers.
+#![tactic(auto)]
+
 ghost use Rattle.std.specs.Prelude.{◌≡◌, ◌+◌, ◌*◌, ◌^◌, nat_lt};
 
 use std::num::wrapping_add_u64;

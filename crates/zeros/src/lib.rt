@@ -1,4 +1,6 @@
 // "12, another byte that must be zero". Every kind without measurements has zeros from byte 12 on: whether one of them is not zero is asked once, and is the `rest` of what a kind asks.
+#![tactic(auto)]
+
 ghost use Rattle.std.specs.Prelude.{◌≡◌};
 ghost use Rattle.zeros.specs.Zeros.{unused_behind_lem, unused_from_twelve_lem, pollutant_unused_lem, stop_unused_lem, small_engine_unused_lem};
 
