@@ -1,5 +1,5 @@
 -- `log2_four` meets its contract: each of the four numbers goes its own way through the loop, as the one of `log2` does.
-use Rattle.arithmetic.proofs.Basics.{◌-◌, ◌≤◌, ◌<◌, arith, needs}
+use Rattle.arithmetic.proofs.Basics.{◌-◌, ◌≤◌, ◌<◌, arith, rules}
 use Rattle.rules.specs.Logarithm.{squarings}
 use Rattle.logarithm.proofs.Bounds.{At, at-start, at_next, at-fits, at-end}
 use Rattle.logarithm.proofs.log2_four.Statement.{statement}
@@ -15,7 +15,7 @@ loop-holds : tie.Need-loop-init invariant-loop decreases-loop
 loop-holds c =
     let b = c.before.before in
     let m = b.before.before.requires in
-    (at-start m.a b.before.start.ensures, at-start m.b b.start2.ensures, at-start m.c c.before.start3.ensures, at-start m.d c.start4.ensures)
+    (at-start m.a b.before.start-a.ensures, at-start m.b b.start-b.ensures, at-start m.c c.before.start-c.ensures, at-start m.d c.start-d.ensures)
 
 loop-again : tie.Need-loop-preserved invariant-loop decreases-loop
 loop-again c =
@@ -23,7 +23,7 @@ loop-again c =
     let at = b.before.before.before.loop in
     let i = at.invariant in
     let l : at.counter < squarings = omega arith in
-    (at_next i.0 l b.before.squared.ensures, at_next i.1 l b.squared2.ensures, at_next i.2 l c.before.squared3.ensures, at_next i.3 l c.squared4.ensures)
+    (at_next i.0 l b.before.squared-a.ensures, at_next i.1 l b.squared-b.ensures, at_next i.2 l c.before.squared-c.ensures, at_next i.3 l c.squared-d.ensures)
 
 returns : tie.Need-returns invariant-loop decreases-loop
 returns c =
@@ -32,14 +32,14 @@ returns c =
     let m = b.before.before.requires in
     let i = c.before.loop.invariant in
     let l : squarings ≤ c.before.loop.counter = omega arith in
-    rw (at-end i.0 l m.a b.before.start.ensures, at-end i.1 l m.b b.start2.ensures)
-    (rw (at-end i.2 l m.c d.before.start3.ensures, at-end i.3 l m.d d.start4.ensures))
+    rw (at-end i.0 l m.a b.before.start-a.ensures, at-end i.1 l m.b b.start-b.ensures)
+    (rw (at-end i.2 l m.c d.before.start-c.ensures, at-end i.3 l m.d d.start-d.ensures))
 
-pub log2-four-spec : {M : Type 1} → statement M
-log2-four-spec =
+pub log2_four_spec : {M : Type 1} → statement M
+log2_four_spec =
     tie.close
     (tie.spec
-    invariant-loop decreases-loop (λ c κs. search needs) (λ c κs. search needs) (λ c κs. search needs) (λ c κs. search needs)
+    invariant-loop decreases-loop (λ c κs. search rules) (λ c κs. search rules) (λ c κs. search rules) (λ c κs. search rules)
     loop-holds
     (λ c κs. at-fits c.before.loop.invariant.0 (omega arith))
     (λ c κs. at-fits c.before.before.loop.invariant.1 (omega arith))

@@ -1,5 +1,5 @@
 -- Two numbers of two bytes are one of four.
-use Rattle.arithmetic.proofs.Basics.{ℕ, add_assoc, arith, ap, needs}
+use Rattle.arithmetic.proofs.Basics.{ℕ, add_assoc, arith, ap, rules}
 use Rattle.rules.specs.Tools.{byte}
 use Rattle.numbers.proofs.u32_present.Statement.{statement}
 use Rattle.numbers.proofs.u32_present.Tie as tie
@@ -9,8 +9,8 @@ returns c =
     let a = c.before.before.before.args in
     omega (arith, ap (λ (k : ℕ). byte a.r.now k) (add_assoc a.i 2 1))
 
-pub u32-present-spec : {M : Type 1} → statement M
-u32-present-spec =
+pub u32_present_spec : {M : Type 1} → statement M
+u32_present_spec =
     tie.close
     (tie.spec
-    (λ c κs. search needs) (λ c. search needs) (λ c κs. search needs) (λ c. search needs) (λ c. search needs) returns)
+    (λ c κs. search rules) (λ c. search rules) (λ c κs. search rules) (λ c. search rules) (λ c. search rules) returns)

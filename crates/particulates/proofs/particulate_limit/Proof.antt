@@ -4,6 +4,6 @@ use Rattle.rules.specs.Refusals.{particulate_limit_lem}
 use Rattle.particulates.proofs.particulate_limit.Statement.{statement}
 use Rattle.particulates.proofs.particulate_limit.Tie as tie
 
-pub particulate-limit-spec : {M : Type 1} → statement M
+pub particulate_limit_spec : {M : Type 1} → statement M
 unfolding particulate_limit_lem
-particulate-limit-spec = tie.close (tie.spec (λ c. rw c.if1.true refl) (λ c. rw c.if1.false refl))
+particulate_limit_spec = tie.close (tie.spec (λ c. rw c.if-volume-speed.true refl) (λ c. rw c.if-volume-speed.false refl))

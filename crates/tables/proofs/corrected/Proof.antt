@@ -4,6 +4,6 @@ use Rattle.rules.specs.Plans.{unknown_numbers, corrected_numbers}
 use Rattle.tables.proofs.corrected.Statement.{statement}
 use Rattle.tables.proofs.corrected.Tie as tie
 
-pub corrected-spec : {M : Type 1} → statement M
+pub corrected_spec : {M : Type 1} → statement M
 unfolding unknown_numbers corrected_numbers
-corrected-spec = tie.close (tie.spec (λ c. refl))
+corrected_spec = tie.close (tie.spec (λ c. refl))

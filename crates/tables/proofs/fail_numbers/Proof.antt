@@ -5,6 +5,6 @@ use Rattle.tables.proofs.TableRows.{fails-are}
 use Rattle.tables.proofs.fail_numbers.Statement.{statement}
 use Rattle.tables.proofs.fail_numbers.Tie as tie
 
-pub fail-numbers-spec : {M : Type 1} → statement M
+pub fail_numbers_spec : {M : Type 1} → statement M
 unfolding attributes_fails
-fail-numbers-spec = tie.close (tie.spec (λ c. fails-are _ refl))
+fail_numbers_spec = tie.close (tie.spec (λ c. fails-are _ refl))

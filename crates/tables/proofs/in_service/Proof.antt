@@ -4,6 +4,6 @@ use Rattle.rules.specs.Plans.{unknown_numbers, in_service_numbers}
 use Rattle.tables.proofs.in_service.Statement.{statement}
 use Rattle.tables.proofs.in_service.Tie as tie
 
-pub in-service-spec : {M : Type 1} → statement M
+pub in_service_spec : {M : Type 1} → statement M
 unfolding unknown_numbers in_service_numbers
-in-service-spec = tie.close (tie.spec (λ c. refl))
+in_service_spec = tie.close (tie.spec (λ c. refl))

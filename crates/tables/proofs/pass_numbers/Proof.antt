@@ -5,6 +5,6 @@ use Rattle.tables.proofs.TableRows.{passes-are}
 use Rattle.tables.proofs.pass_numbers.Statement.{statement}
 use Rattle.tables.proofs.pass_numbers.Tie as tie
 
-pub pass-numbers-spec : {M : Type 1} → statement M
+pub pass_numbers_spec : {M : Type 1} → statement M
 unfolding attributes_passes
-pass-numbers-spec = tie.close (tie.spec (λ c. passes-are _ refl))
+pass_numbers_spec = tie.close (tie.spec (λ c. passes-are _ refl))

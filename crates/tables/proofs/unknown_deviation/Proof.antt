@@ -4,6 +4,6 @@ use Rattle.rules.specs.Plans.{unknown_numbers}
 use Rattle.tables.proofs.unknown_deviation.Statement.{statement}
 use Rattle.tables.proofs.unknown_deviation.Tie as tie
 
-pub unknown-deviation-spec : {M : Type 1} → statement M
+pub unknown_deviation_spec : {M : Type 1} → statement M
 unfolding unknown_numbers
-unknown-deviation-spec = tie.close (tie.spec (λ c. refl))
+unknown_deviation_spec = tie.close (tie.spec (λ c. refl))

@@ -4,13 +4,13 @@ use Rattle.wide.proofs.Words.{less-upper, less-lower}
 use Rattle.wide.proofs.less.Statement.{statement}
 use Rattle.wide.proofs.less.Tie as tie
 
-returns-2 : tie.Need-returns-2
+returns-2 : tie.Need-returns-else-x-y
 returns-2 c =
     let s = c.before.before.before.before.before.args in
-    less-upper 64 s.x.hi s.x.lo s.y.hi s.y.lo (omega arith) (omega arith) c.before.before.if1.false
+    less-upper 64 s.x.hi s.x.lo s.y.hi s.y.lo (omega arith) (omega arith) c.before.before.if-x-y.false
 
-pub less-spec : {M : Type 1} → statement M
-less-spec =
+pub less_spec : {M : Type 1} → statement M
+less_spec =
     tie.close
-    (tie.spec (λ c. less-lower 64 _ _ _ _ c.before.before.if1.true)
+    (tie.spec (λ c. less-lower 64 _ _ _ _ c.before.before.if-x-y.true)
     returns-2)

@@ -1,5 +1,5 @@
 -- `product` meets its contract: each product of two halves is at most (2^32 - 1)^2.
-use Rattle.arithmetic.proofs.Basics.{◌≡◌, sym, ◌∙◌, ap₂, ℕ, ◌+◌, ◌-◌, ◌*◌, ◌/◌, ◌%◌, ◌^◌, ◌≤◌, arith, mul-le-mul, div-add-mod', le-add_right, needs}
+use Rattle.arithmetic.proofs.Basics.{◌≡◌, sym, ◌∙◌, ap₂, ℕ, ◌+◌, ◌-◌, ◌*◌, ◌/◌, ◌%◌, ◌^◌, ◌≤◌, arith, mul-le-mul, div-add-mod', le-add_right, rules}
 use Rattle.std.proofs.Common.{Fits-le}
 use Rattle.wide.proofs.Words.{upper_lt}
 use Rattle.wide.proofs.product.Statement.{statement}
@@ -47,22 +47,22 @@ whole : (a b : ℕ) → upper (a / H * (b / H)) (a / H * (b % H)) (a % H * (b / 
 whole a b = words (a / H * (b / H)) (a / H * (b % H)) (a % H * (b / H)) (a % H * (b % H)) ∙ sym (split a b)
 
 -- the upper word fits, since the product is below 2 ^ 128
-upper_fits : tie.Need-overflow-add-hi-2
+upper_fits : tie.Need-overflow_add-hi-2
 upper_fits c =
     let a = c.args.a in
     let b = c.args.b in
     record { fits = upper_lt (2 ^ 64) _ _ a b c.ranges.a.fits c.ranges.b.fits (whole a b) }
 
 returns : tie.Need-returns
-returns c = rw (c.wrapping-add-u642.ensures, c.before.wrapping-add-u64.ensures) (whole c.before.before.args.a c.before.before.args.b)
+returns c = rw (c.wrapping_add_u64-lo.ensures, c.before.wrapping_add_u64-crossed.ensures) (whole c.before.before.args.a c.before.before.args.b)
 
-pub product-spec : {M : Type 1} → statement M
-product-spec =
+pub product_spec : {M : Type 1} → statement M
+product_spec =
     tie.close
     (tie.spec
     (λ c. omega (arith, at c)) (λ c. omega (arith, at c)) (λ c. omega (arith, at c))
     (λ c. omega (arith, at c)) (λ c. omega (arith, at c)) (λ c. omega (arith, at c))
     (λ c. Fits-le (le-add_right _ _) (upper_fits c))
     upper_fits
-    (λ c. omega (arith, at c)) (λ c. omega (arith, at c)) (λ c κs. search needs) (λ c κs. search needs)
+    (λ c. omega (arith, at c)) (λ c. omega (arith, at c)) (λ c κs. search rules) (λ c κs. search rules)
     returns)

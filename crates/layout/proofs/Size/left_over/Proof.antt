@@ -1,10 +1,10 @@
 -- The division is by the bytes of each size.
-use Rattle.arithmetic.proofs.Basics.{refl, needs}
+use Rattle.arithmetic.proofs.Basics.{refl, rules}
 use Rattle.layout.proofs.Size.left_over.Statement.{statement}
 use Rattle.layout.proofs.Size.left_over.Tie as tie
 
-pub left-over-spec : {M : Type 1} → statement M
-left-over-spec =
+pub left_over_spec : {M : Type 1} → statement M
+left_over_spec =
     tie.close
     (tie.spec
-    (λ c. search needs) (λ c. search needs) (λ c. rw c.enum_told.given.1 refl) (λ c. rw c.enum-told2.given.1 refl))
+    (λ c. search rules) (λ c. search rules) (λ c. rw c.in-Twenty.is refl) (λ c. rw c.in-TwentyEight.is refl))

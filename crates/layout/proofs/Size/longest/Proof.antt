@@ -1,10 +1,10 @@
 -- The bytes of each size, as often as it has records at most.
-use Rattle.arithmetic.proofs.Basics.{refl, needs}
+use Rattle.arithmetic.proofs.Basics.{refl, rules}
 use Rattle.layout.proofs.Size.longest.Statement.{statement}
 use Rattle.layout.proofs.Size.longest.Tie as tie
 
-pub longest-spec : {M : Type 1} → statement M
-longest-spec =
+pub longest_spec : {M : Type 1} → statement M
+longest_spec =
     tie.close
     (tie.spec
-    (λ c. search needs) (λ c. search needs) (λ c. rw c.enum_told.given.1 refl) (λ c. rw c.enum-told2.given.1 refl))
+    (λ c. search rules) (λ c. search rules) (λ c. rw c.in-Twenty.is refl) (λ c. rw c.in-TwentyEight.is refl))

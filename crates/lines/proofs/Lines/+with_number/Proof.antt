@@ -1,5 +1,5 @@
 -- `with_number` meets its contract: the digits of a tenth of the number, which is less, and then the last.
-use Rattle.arithmetic.proofs.Basics.{ℕ, ◌<◌, ◌∙◌, arith, needs}
+use Rattle.arithmetic.proofs.Basics.{ℕ, ◌<◌, ◌∙◌, arith, rules}
 use borrow.Fn.PlainCycle.{Measures, is, falls, and}
 use Rattle.lines.specs.Writing.{with_bytes}
 use Rattle.lines.proofs.Numbers.{one-digit, more-digits, decimal-length}
@@ -15,14 +15,14 @@ abbrev μ : Measures 0 ps ℕ
 μ κs a = a.1.0
 
 -- it is given a number of the measure t, and a call of it within asks for one below t
-pub +with-number-spec : {M : Type 1} → statement M
+pub ++with_number_spec : {M : Type 1} → statement M
 unfolding with_bytes
-+with-number-spec =
+++with_number_spec =
     close μ
     (λ t. lts.spec (with_byte.Asked, with_byte.Learnt, and 0 ps (falls 0 ps ◌<◌ μ t) Pre, Post) (and 0 ps (is 0 ps μ t) Pre) Post
-    (λ c. search needs) (λ c. search needs) (λ c κs. search needs)
+    (λ c. search rules) (λ c. search rules) (λ c κs. search rules)
     (λ c κs. (omega (arith, c.before.requires.0), tt))
-    (λ c. search needs) (λ c. search needs) (λ c κs. search needs)
+    (λ c. search rules) (λ c. search rules) (λ c κs. search rules)
     (λ c.
     let n = c.before.before.args.n in
     let fits = c.before.before.ranges.n.fits in

@@ -4,6 +4,6 @@ use Rattle.lines.specs.Writing.{nothing}
 use Rattle.lines.proofs.Lines.nothing.Statement.{statement}
 use Rattle.lines.proofs.Lines.nothing.Tie as tie
 
-pub nothing-spec : {M : Type 1} → statement M
+pub nothing_spec : {M : Type 1} → statement M
 unfolding nothing
-nothing-spec = tie.close (tie.spec (λ c. refl))
+nothing_spec = tie.close (tie.spec (λ c. refl))
