@@ -14,7 +14,7 @@ use layout::{Named, Size};
 use tally::{Judgement, Numbers, judgement_of};
 
 // What judging answers: a judgement, or the refusal of a sheet that the check does not accept.
-#[derive(Drop)]
+#[derive(Clone, Copy)]
 pub enum Judged {
     Judgement(Judgement),
     Refused(Refusal),
