@@ -2,8 +2,7 @@
 use Rattle.arithmetic.proofs.Basics.{sym, ap, ◌∙◌, arith, length-take-le, needs}
 use Rattle.rules.specs.Operations.{code}
 use Rattle.checking.specs.Check.{Valid}
-use Rattle.checking.proofs.Laws.{valid, refused-so}
-use Rattle.series.proofs.Judging.{evidence-refused, evidence-fits, evidence-small, evidence-part, evidence-whole}
+use Rattle.series.proofs.Judging.{valid, refused-so, evidence-refused, evidence-fits, evidence-small, evidence-part, evidence-whole}
 use Rattle.series.proofs.Judging.{evidence-unknown, evidence-known, check-unknown, check-known}
 use Rattle.series.proofs.evidence.Statement.{statement}
 use Rattle.series.proofs.evidence.Tie as tie
