@@ -29,9 +29,9 @@ with-cause c =
     let e = eqb-true k.result run_in_kind b.1 in
     ⊎_elim
     (λ h.
-    rw (← k.ensures.0, e, ← h.3.ensures, ← h.2.ensures, h.4.left, ← f.engine_fault-fault.ensures, b.0) refl)
-    (λ h. let z = h.left in absurd (omega arith))
-    f.before.if-kind-ne-ENGINE.branch
+    rw (← k.ensures.0, e, ← h.misplaces_run_in.ensures, ← h.misplaces_others.ensures, h.if-misplaces_others-misplaces_run_in.false, ← f.engine_fault-fault.ensures, b.0) refl)
+    (λ h. let z = h.if-kind-ne-ENGINE.false in absurd (omega arith))
+    f.before.if-kind-ne-ENGINE.branch-raw
 
 said : tie.Need-returns
 unfolding fault_by run_in_fault
@@ -40,10 +40,10 @@ said c =
     let k = f.before.before.kind_of-kind in
     ⊎_elim
     (λ h.
-    let other-number = and_left (eqb f.engine_fault-fault.result 9) (eqb k.result run_in_kind) c.if-fault-kind.false (rw h.1.left refl) in
-    rw (← k.ensures.0, h.1.left, ← h.3.ensures, ← h.2.ensures, h.4.left, ← f.engine_fault-fault.ensures, other-number) refl)
-    (λ h. rw (← k.ensures.0, h.left) f.engine_fault-fault.ensures)
-    f.before.if-kind-ne-ENGINE.branch
+    let other-number = and_left (eqb f.engine_fault-fault.result 9) (eqb k.result run_in_kind) c.if-fault-kind.false (rw h.if-kind-ne-RUN_IN.false refl) in
+    rw (← k.ensures.0, h.if-kind-ne-RUN_IN.false, ← h.misplaces_run_in.ensures, ← h.misplaces_others.ensures, h.if-misplaces_others-misplaces_run_in.false, ← f.engine_fault-fault.ensures, other-number) refl)
+    (λ h. rw (← k.ensures.0, h.if-kind-ne-ENGINE.false) f.engine_fault-fault.ensures)
+    f.before.if-kind-ne-ENGINE.branch-raw
 
 pub fault_of_spec : {M : Type 1} → statement M
 fault_of_spec =

@@ -12,9 +12,9 @@ never-at-three n c e = rw e refl
 not-passed : (c : tie.Joined-n-ge4) → attributes_passes c.before.args.n c.before.args.over ≡ false
 not-passed c =
     let p = c.before.requires in
-    ⊎_elim (λ l. p.1.0.passes _ (omega (arith, l.0.taken)) p.0.most _ ∙ lt-leb _ _ l.2.left)
-    (λ l. never-at-three _ _ (omega (arith, l.left, p.0.least)))
-    c.if-n-ge4.branch
+    ⊎_elim (λ l. p.1.0.passes _ (omega (arith, l.if-n-ge4.true)) p.0.most _ ∙ lt-leb _ _ l.if-over-pass.false)
+    (λ l. never-at-three _ _ (omega (arith, l.if-n-ge4.false, p.0.least)))
+    c.if-n-ge4.branch-raw
 
 -- the row's fail number
 abbrev number : tie.Start → ℕ
@@ -37,5 +37,5 @@ attributes_row_spec =
     (λ c. search rules)
     (λ c. rw (not-passed c.before, eq-eqb _ _ c.if-n.true))
     (λ c. search rules) (λ c. search rules)
-    (λ c. let s = c.before.before.before.before in rw (by_number c.before.before, le-leb (number s) s.args.over (omega (arith, c.if-fail-n.true))))
-    (λ c. let s = c.before.before.before.before in rw (by_number c.before.before, lt-leb (number s) s.args.over (omega (arith, c.if-fail-n.false)))))
+    (λ c. let s = c.before.before.before.before.before in rw (by_number c.before.before.before, le-leb (number s) s.args.over (omega (arith, c.if-fail-n.true))))
+    (λ c. let s = c.before.before.before.before.before in rw (by_number c.before.before.before, lt-leb (number s) s.args.over (omega (arith, c.if-fail-n.false)))))

@@ -37,13 +37,13 @@ module _ {z : ℤ} (f : SFits w32 z) where
 sub-result : tie.Need-overflow_sub-result
 sub-result c = let f = c.before.ranges.x in rw (read_back f) (opposite f c.if-x-lt0.true).fits
 
-cast-result-2 : tie.Need-overflow_cast-result-2
+cast-result-2 : tie.Need-overflow_cast-result-then-x-lt0
 cast-result-2 c =
     let f = c.before.ranges.x in
     let o = opposite f c.if-x-lt0.true in
     rw (read_back f, to_z-of_z w64 _ o.fits) (o.above, Fits-nat_abs tt o.fits)
 
-cast-result-3 : tie.Need-overflow_cast-result-3
+cast-result-3 : tie.Need-overflow_cast-result-else-x-lt0
 cast-result-3 c =
     let f = c.before.ranges.x in
     rw (to_z-of_z w32 _ f) (not-below c.before.args.x (rw (to_z-of_z w32 _ f) at c.if-x-lt0.false), Fits-nat_abs tt f)

@@ -1,6 +1,6 @@
 -- `root_row` meets its contract: the row's numbers are read out of the plan's table, and the comparisons decide as the two tests do.
 use Rattle.arithmetic.proofs.Basics.{◌≡◌, refl, sym, ap₂, ◌∙◌, Bool, true, false, cond, ◌-◌, ◌*◌, ◌≤◌, ◌<◌, arith, mul-le-mul, ltb, eqb, length, ℤ, pos, ◌-ℤ◌, rules}
-use Rattle.arithmetic.proofs.Basics.{eq-eqb, ne_eqb, ltb-true, ltb-false, nat_abs}
+use Rattle.arithmetic.proofs.Basics.{eq-eqb, ne_eqb, ltb-true, ltb-false, lt-ltb, le-ltb, nat_abs}
 use Rattle.rules.specs.Plans.{last_row_lem, Row, pass, fail, undecided, decide, root_passes, root_fails}
 use Rattle.plan.specs.Plan.{plan_is}
 use Rattle.tables.specs.Tables.{entry_at, numbers_of_lem, root_most, RootNumbers}
@@ -48,8 +48,8 @@ as_read c = let r = c.requires.0 in let l = c.requires.1 in rw (A-is l r.least r
 -- ---- A at or above 0
 
 within-is : (c : tie.After-is_within) → let d = c.before.before.before in let s = d.before in
-    c.is_Within.result ≡ is_within_lem (numbers s) s.args.added s.args.taken s.args.spread d.distance-p.result d.distance-p.ensures
-within-is c = rw (← c.before.before.magnitude_at-a.ensures, ← c.before.is_negative_at.ensures) c.is_Within.ensures
+    c.is_within.result ≡ is_within_lem (numbers s) s.args.added s.args.taken s.args.spread d.distance-p.result d.distance-p.ensures
+within-is c = rw (← c.before.before.magnitude_at-a.ensures, ← c.before.is_negative_at.ensures) c.is_within.ensures
 
 -- ---- by one comparison, with the number that D's sign chooses
 
@@ -60,7 +60,7 @@ chosen_is : (c : tie.After-chosen-x) → let s = start c in
     c.chosen-x.result ≡ cond (ltb s.args.taken s.args.added) (nat_abs (B s)) (nat_abs (A s))
 chosen_is c = rw (← c.before.magnitude_at.ensures, ← c.before.before.before.before.before.magnitude_at-a.ensures) c.chosen-x.ensures
 
-mul-product : tie.Need-overflow_mul-product
+mul-product : tie.Need-overflow_mul-x
 mul-product c =
     let h = c.before in
     let s = start h in
@@ -102,5 +102,5 @@ root_row_spec =
     (λ c κs. search rules) (λ c κs. search rules) mul-product (λ c κs. search rules) (λ c κs. search rules) (λ c κs. search rules) (λ c. search rules)
     (λ c. let r = c.before in missed-so r.before.before r.before.if-less.true true (eq-eqb _ _ (c.if-n-last_row.true ∙ r.last_row.ensures)))
     (λ c. let r = c.before in missed-so r.before.before r.before.if-less.true false (ne_eqb _ _ (λ e. c.if-n-last_row.false (e ∙ sym r.last_row.ensures))))
-    (λ c. reached-so c.before.before c.before.if-less.false true c.if-over.true)
-    (λ c. reached-so c.before.before c.before.if-less.false false c.if-over.false))
+    (λ c. reached-so c.before.before c.before.if-less.false true (lt-ltb _ _ c.if-over.true))
+    (λ c. reached-so c.before.before c.before.if-less.false false (le-ltb _ _ c.if-over.false)))
