@@ -14,12 +14,12 @@ pub gate_of_spec : {M : Type 1} → statement M
 gate_of_spec =
     tie.close
     (tie.spec
-    (λ c. search rules) (λ c. omega (arith, few-rows c.before.before.before))
-    (λ c. search rules) (λ c. omega (arith, few-rows c.before.before.before))
-    (λ c. search rules) (λ c. omega (arith, few-rows c.before.before.before))
+    (λ c. search rules) (λ c. omega (arith, few-rows c.before.before))
+    (λ c. search rules) (λ c. omega (arith, few-rows c.before.before))
+    (λ c. search rules) (λ c. omega (arith, few-rows c.before.before))
     (λ c. search rules)
-    (λ c κs. let p = c.before.before.before.requires in record { sheet = rw c.in-InService.is at p.sheet; all = p.all })
-    (λ c. search rules) (λ c. omega (arith, few-rows c.before.before.before))
+    (λ c κs. let p = c.requires in record { sheet = rw c.in-InService.is at p.sheet; all = p.all })
+    (λ c. search rules) (λ c. omega (arith, few-rows c.before.before))
     (λ c. rw c.in-KnownDeviation.is (plain-gate _ known_deviation_lem _ _ (λ k first. refl)))
     (λ c. rw c.in-UnknownDeviation.is (plain-gate _ unknown_deviation_lem _ _ (λ k first. refl)))
     (λ c. rw c.in-Attributes.is (plain-gate _ attributes _ _ (λ k first. refl)))

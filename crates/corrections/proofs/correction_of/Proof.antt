@@ -26,7 +26,7 @@ correction_of_spec =
     (λ c κs. search rules) (λ c κs. search rules)
     (λ c κs.
     let s = start c.before.before in
-    record { inside = lies_in s _ (omega arith); measured = (number_in _ _ (clean s.pre.sheet) _ s.pre.declared).1 })
+    record { inside = lies_in s _ (omega arith); measured = (number_in _ _ (clean s.requires.sheet) _ s.requires.declared).1 })
     (λ c.
     let k = c.before.before.before in
     let r = k.before.record_at-r.ensures in

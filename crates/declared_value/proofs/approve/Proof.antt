@@ -1,5 +1,5 @@
 -- `approve` meets its contract: each return is one of the definition's, and the sum of three values in range fits its word.
-use Rattle.arithmetic.proofs.Basics.{ℕ, ◌≤◌, arith, ◌≡◌, refl, sym, ◌∙◌, ap₂, false, ◌||◌, List, length, get_or, lt-ltb, le-ltb, or-false, rules}
+use Rattle.arithmetic.proofs.Basics.{ℕ, ◌≤◌, arith, ◌≡◌, refl, sym, ◌∙◌, ap, ap₂, not, false, ◌||◌, List, length, get_or, lt-ltb, le-ltb, or-false, rules}
 use Rattle.rules.specs.Tools.{any}
 use Rattle.rules.specs.Logarithm.{greatest, outside}
 use Rattle.rules.specs.DeclaredValue.{most_tests, stands, decided, bad_count, bad_value_lem, after_decision, approve}
@@ -17,7 +17,7 @@ module _ (c : tie.Else-is_outside-any_outside) where
 
   good-count : bad_count tests ≡ false
   unfolding bad_count
-  good-count = c.before.before.before.if-not-count.false
+  good-count = ap not c.before.before.before.if-not-count.false
 
   good-values : bad_value_lem declared tests ≡ false
   unfolding bad_value_lem

@@ -9,5 +9,5 @@ pair_spec =
     (tie.spec (λ c. search rules) (λ c. search rules) (λ c. search rules) (λ c. search rules)
     (λ c. rw c.in-Undeclared.is)
     (λ c. rw c.in-Open.is)
-    (λ c. rw c.before.in-Passed.is)
-    (λ c. rw c.before.in-Failed.is))
+    (λ c. rw c.in-Passed.is)
+    (λ c. rw c.in-Failed.is))

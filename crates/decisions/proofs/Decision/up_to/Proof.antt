@@ -7,7 +7,7 @@ pub up_to_spec : {M : Type 1} → statement M
 up_to_spec =
     tie.close
     (tie.spec (λ c. search rules) (λ c. search rules) (λ c. search rules) (λ c. search rules) (λ c. search rules) (λ c. search rules)
-    (λ c. let e = c.before.before.in-Passed.is in (rw (e, le-leb _ _ c.if-n-m.true), rw e))
-    (λ c. let e = c.before.before.in-Passed.is in (rw (e, lt-leb _ _ c.if-n-m.false), rw e))
-    (λ c. let e = c.before.before.in-Failed.is in (rw (e, le-leb _ _ c.if-n-m-2.true), rw e))
-    (λ c. let e = c.before.before.in-Failed.is in (rw (e, lt-leb _ _ c.if-n-m-2.false), rw e)))
+    (λ c. let e = c.in-Passed.is in (rw (e, le-leb _ _ c.if-n-m.true), rw e))
+    (λ c. let e = c.in-Passed.is in (rw (e, lt-leb _ _ c.if-n-m.false), rw e))
+    (λ c. let e = c.in-Failed.is in (rw (e, le-leb _ _ c.if-n-m-2.true), rw e))
+    (λ c. let e = c.in-Failed.is in (rw (e, lt-leb _ _ c.if-n-m-2.false), rw e)))

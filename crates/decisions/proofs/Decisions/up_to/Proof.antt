@@ -7,8 +7,8 @@ returns : tie.Need-returns
 returns c =
     let four = c.before.before in
     let two = four.before.before in (
-      rw (c.up_to-6.ensures.0, c.before.up_to-5.ensures.0, four.up_to-4.ensures.0, four.before.up_to-3.ensures.0, two.up_to-2.ensures.0, two.before.up_to_lem.ensures.0) refl,
-      rw (c.up_to-6.ensures.1, c.before.up_to-5.ensures.1, four.up_to-4.ensures.1, four.before.up_to-3.ensures.1, two.up_to-2.ensures.1, two.before.up_to_lem.ensures.1) refl,
+      rw (c.up_to-6.ensures.0, c.before.up_to-5.ensures.0, four.up_to-4.ensures.0, four.before.up_to-3.ensures.0, two.up_to-2.ensures.0, two.before.up_to.ensures.0) refl,
+      rw (c.up_to-6.ensures.1, c.before.up_to-5.ensures.1, four.up_to-4.ensures.1, four.before.up_to-3.ensures.1, two.up_to-2.ensures.1, two.before.up_to.ensures.1) refl,
     )
 
 pub up_to_spec : {M : Type 1} → statement M
