@@ -29,7 +29,7 @@ ready c plan e l h = (record { corrected = corrected c; logs = rw e l }, record 
 
 column-requires-3 : tie.Need-column-requires-in-Attributes
 column-requires-3 c κs =
-    let d = c.before.before in
+    let d = c.before in
     let r = corrected d in
     let p = rw c.in-Attributes.is at r.column in
     record {
@@ -48,11 +48,11 @@ column_spec =
     tie.close
     (tie.spec
     returns correction-requires
-    (λ c. search rules) (λ c κs. search rules) (λ c. search rules) (λ c κs. let t = c.before.before in ready t.before.before KnownDeviation t.in-KnownDeviation.is refl c.known_deviation-table.ensures)
-    (λ c. search rules) (λ c κs. search rules) (λ c. search rules) (λ c κs. let t = c.before.before in ready t.before.before UnknownDeviation t.in-UnknownDeviation.is refl c.unknown_deviation-table.ensures)
+    (λ c. search rules) (λ c κs. search rules) (λ c. search rules) (λ c κs. let t = c.before.before in ready t.before KnownDeviation c.in-KnownDeviation.is refl c.known_deviation-table.ensures)
+    (λ c. search rules) (λ c κs. search rules) (λ c. search rules) (λ c κs. let t = c.before.before in ready t.before UnknownDeviation c.in-UnknownDeviation.is refl c.unknown_deviation-table.ensures)
     (λ c. search rules) column-requires-3
-    (λ c. search rules) (λ c κs. search rules) (λ c. search rules) (λ c κs. let t = c.before.before in ready t.before.before InService t.in-InService.is refl c.in_service-table.ensures)
-    (λ c. search rules) (λ c κs. search rules) (λ c. search rules) (λ c κs. let t = c.before.before in ready t.before.before Corrected t.in-Corrected.is refl c.corrected-table.ensures)
+    (λ c. search rules) (λ c κs. search rules) (λ c. search rules) (λ c κs. let t = c.before.before in ready t.before InService c.in-InService.is refl c.in_service-table.ensures)
+    (λ c. search rules) (λ c κs. search rules) (λ c. search rules) (λ c κs. let t = c.before.before in ready t.before Corrected c.in-Corrected.is refl c.corrected-table.ensures)
     (λ c. c.column.ensures) (λ c. c.column-in-UnknownDeviation.ensures)
     (λ c. rw c.in-Attributes.is (c.column-in-Attributes.ensures _))
     (λ c. c.column-in-InService.ensures) (λ c. c.column-in-Corrected.ensures))

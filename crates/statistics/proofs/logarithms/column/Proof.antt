@@ -40,41 +40,40 @@ body : tie.After-four_with invariant-loop decreases-loop → tie.In-loop-n invar
 body c = c.before.before
 
 -- the limit's logarithm, and what is added to each logarithm and taken away
-limit_is_lem : (c : tie.After-put_four invariant-loop decreases-loop) → get_or c.put_four.new.0 0 0 ≡ g squarings c.args.limit
+limit_is_lem : (c : tie.After-put_four invariant-loop decreases-loop) → get_or c.put_four.new.logs 0 0 ≡ g squarings c.args.limit
 limit_is_lem c = ap (λ (xs : List ℕ). get_or xs 0 0) c.put_four.ensures
 
 gain-is : (c : tie.After-log2_of invariant-loop decreases-loop) → let a = c.args in
     c.log2_of-gain.result ≡ gain squarings (correction_in (width_is a.size) a.bytes.now a.number)
-gain-is c = let s = c.before.before.before.before.before.before in rw s.requires.0.corrected.corrects.is c.log2_of-gain.ensures
+gain-is c = rw c.requires.0.corrected.corrects.is c.log2_of-gain.ensures
 
 level-is : (c : tie.After-log2_of invariant-loop decreases-loop) → let a = c.args in
-    get_or c.put_four.new.0 0 0 + c.log2_of.result ≡ level squarings a.limit (correction_in (width_is a.size) a.bytes.now a.number)
+    get_or c.put_four.new.logs 0 0 + c.log2_of.result ≡ level squarings a.limit (correction_in (width_is a.size) a.bytes.now a.number)
 level-is c =
-    let s = c.before.before.before.before.before.before in
-    rw (s.requires.0.corrected.corrects.is, limit_is_lem c.before.before, c.log2_of.ensures) refl
+    rw (c.requires.0.corrected.corrects.is, limit_is_lem c.before.before, c.log2_of.ensures) refl
 
 -- the row's number, and the logarithm at hand
 abbrev N : tie.After-four_with invariant-loop decreases-loop → ℕ
 N c = c.loop-n.n + 1
 
 abbrev Y : tie.After-four_with invariant-loop decreases-loop → ℕ
-Y c = get_or c.four_with.new.0 (N c % 4) 0
+Y c = get_or c.four_with.new.logs (N c % 4) 0
 
 -- the sums with one engine more
 sums : (c : tie.After-four_with invariant-loop decreases-loop) → let i = body c in let a = (entry i.before).args in let l = i.loop-n in
-    Sums (width_is a.size) a.bytes.now a.number a.limit (N c) i.log2_of-gain.result (get_or i.put_four.last.0 0 0 + i.log2_of.result) (l.sum + Y c) (l.squares + Y c * Y c)
+    Sums (width_is a.size) a.bytes.now a.number a.limit (N c) i.log2_of-gain.result (get_or i.put_four.new.logs 0 0 + i.log2_of.result) (l.sum + Y c) (l.squares + Y c * Y c)
 unfolding entry body
 sums c =
     let i = body c in
-    let t = i.loop-n-test.taken in
-    sums-more (entry i.before).requires.0.corrected.column i.loop-n.n t i.loop-n.inv.3 (c.four_with.ensures.each _ refl t)
+    let t = i.loop-n-test.true in
+    sums-more (entry i.before).requires.0.corrected.column i.loop-n.n t i.loop-n.invariant.3 (c.four_with.ensures.each _ refl t)
 
 fits : (c : tie.After-four_with invariant-loop decreases-loop) → let l = (body c).loop-n in let rows = (entry (body c).before).args.rows in
     (l.sum + Y c ≤ 32 * highest) × (l.squares + Y c * Y c ≤ 32 * (highest * highest)) × (N c ≤ rows) × (rows ≤ 32)
 unfolding entry body
 fits c =
     let i = body c in
-    let t = i.loop-n-test.taken in
+    let t = i.loop-n-test.true in
     let e = (in-engines (entry i.before).requires.0.corrected.column).2 in
     let f = sums-fit (sums c) (omega arith) in
     (f.0, f.1, omega arith, e)
@@ -87,7 +86,7 @@ unfolding entry begun body
 made c =
     let i = body c in
     let l = i.loop-n in
-    row_more (entry i.before).requires.0.corrected.column l.n i.loop-n-test.taken l.inv.2 (begun i.before).first_row-first.ensures
+    row_more (entry i.before).requires.0.corrected.column l.n i.loop-n-test.true l.invariant.2 (begun i.before).first_row-first.ensures
 
 -- what the row decides
 told : (c : tie.After-row-row invariant-loop decreases-loop) {s : Row} → c.row-row.result ≡ s → let f = c.before.before in let a = (entry (body f).before).args in
@@ -98,16 +97,15 @@ told c e =
     let f = k.before in
     let a = (entry (body f).before).args in
     tells (width_is a.size) a.plan a.bytes.now a.number a.limit a.deviation (N f) a.rows (omega (arith, (body f).loop-n-test.true))
-    (rw (le-leb (begun (body f).before).first_row-first.result (N f) (omega (arith, k.if-first-n.true))) at (made f)
+    (rw (le-leb (begun (body f).before).first_row-first.result (N f) (omega (arith, c.if-first-n.true))) at (made f)
     ∙ ap (λ r. decided_at (N f) r)
     (says-by (width_is a.size) a.plan a.bytes.now a.number a.limit a.deviation (N f) (omega arith) ∙ sym (c.row-row.ensures _ _ _ (sums f)))) e
 
 loop-holds : tie.Need-loop-n-init invariant-loop decreases-loop
 loop-holds c =
-    let f = c.before.before in
-    let a = f.args in (
+    let a = c.args in (
       omega arith,
-      place_is _ _ _ _ _ a.limit 0 0 refl (λ k z. absurd (omega arith)) f.put_four.ensures,
+      place_is _ _ _ _ _ a.limit 0 0 refl (λ k z. absurd (omega arith)) c.put_four.ensures,
       column-none (width_is a.size) a.plan a.bytes.now a.number a.limit a.deviation,
       record { count = refl; sum_is = refl; squares_is = refl; gain_is = gain-is c; level_is = level-is c },
     )
@@ -117,10 +115,10 @@ unfolding entry begun body
 row-requires c κs =
     let f = c.before in
     let i = body f in
-    let p = (entry i.before).pre in
+    let p = (entry i.before).requires in
     let a = (entry i.before).args in
-    let h : N f ≤ last_row_lem (plan_is a.plan) = omega (arith, i.loop-n-test.taken, in-engines p.0.corrected.column) in (
-      row-range (sums f) p.0.logs-1 (omega (arith, late (width_is a.size) a.bytes.now, (begun i.before).first_row-first.ensures, c.if-first-n.true)) h p.0.corrected.column.deviation,
+    let h : N f ≤ last_row_lem (plan_is a.plan) = omega (arith, i.loop-n-test.true, in-engines p.0.corrected.column) in (
+      row-range (sums f) p.0.logs (omega (arith, late (width_is a.size) a.bytes.now, (begun i.before).first_row-first.ensures, c.if-first-n.true)) h p.0.corrected.column.deviation,
       p.1,
     )
 
@@ -128,16 +126,16 @@ row-requires c κs =
 loop-again : tie.Need-loop-n-preserved-in-Open invariant-loop decreases-loop
 unfolding entry body
 loop-again c =
-    let r = c.before.before in
+    let r = c.before in
     let f = r.before.before in
-    (omega (arith, (body f).loop-n-test.true), f.four_with.ensures, told r c.in-Open.is, sums f)
+    (omega (arith, (body f).loop-n-test.true), c.four_with.ensures, told r c.in-Open.is, sums f)
 
 loop-again-2 : tie.Need-loop-n-preserved invariant-loop decreases-loop
 unfolding entry begun body
 loop-again-2 c =
     let f = c.before in
     let not_yet = lt-leb (begun (body f).before).first_row-first.result (N f) (omega (arith, c.if-first-n.false)) in
-    (omega (arith, (body f).loop-n-test.true), f.four_with.ensures, rw not_yet at (made f), sums f)
+    (omega (arith, (body f).loop-n-test.true), c.four_with.ensures, rw not_yet at (made f), sums f)
 
 put-four-requires : tie.Need-put_four-requires invariant-loop decreases-loop
 put-four-requires c κs =
@@ -157,18 +155,18 @@ column_spec =
     (λ c κs. search rules) (λ c. search rules)
     (λ c. omega (arith, limit_is_lem c.before.before, c.log2_of.ensures, g-fits c.args.limit, g-fits c.args.correction.first))
     loop-holds
-    (λ c κs. let i = c.before in record { last = i.loop-n.invariant.1; all = measured-range (entry i.before).requires.0.corrected.column; some = i.loop-n-test.true })
+    (λ c κs. let i = c.before in record { last = c.loop-n.invariant.1; all = measured-range (entry i.before).requires.0.corrected.column; some = c.loop-n-test.true })
     (λ c. omega (arith, fits c))
     (λ c. search rules) (λ c. omega arith)
     (λ c. omega (arith, fits c)) (λ c. omega (arith, fits c)) (λ c. omega (arith, fits c)) (λ c. omega (arith, fits c))
     row-requires (λ c. search rules)
-    (λ c. let t = (body c.before.before.before.before).loop-n-test.taken in omega arith)
+    (λ c. let t = c.loop-n-test.true in omega arith)
     loop-again (λ c. search rules)
-    (λ c. omega (arith, fits c.before.before.before.before))
-    (λ c. told c.before.before c.in-Pass.is)
+    (λ c. omega (arith, fits c.before.before.before))
+    (λ c. told c.before c.in-Pass.is)
     (λ c. search rules)
-    (λ c. omega (arith, fits c.before.before.before.before))
-    (λ c. told c.before.before c.in-Fail.is)
-    (λ c. let t = (body c.before).loop-n-test.taken in omega arith)
+    (λ c. omega (arith, fits c.before.before.before))
+    (λ c. told c.before c.in-Fail.is)
+    (λ c. let t = c.loop-n-test.true in omega arith)
     loop-again-2
     (λ c. let l = c.loop-n.invariant in none-tells _ _ _ _ _ _ l.0 c.loop-n-test.false l.2))

@@ -1,5 +1,5 @@
 -- `row` meets its contract: the row is that of plan 1, or of a plan that compares with roots.
-use Rattle.arithmetic.proofs.Basics.{sym, ◌∙◌, ◌≡◌, refl, true, never, ⊎_elim, arith, rules}
+use Rattle.arithmetic.proofs.Basics.{sym, ◌∙◌, ◌≡◌, refl, true, never, arith, rules}
 use Rattle.rules.specs.Logarithm.{squarings}
 use Rattle.plan.specs.declared.Plan.{Plan}
 use Rattle.plan.specs.declared.Plan.TheVariants.{KnownDeviation, UnknownDeviation, Attributes, InService, Corrected}
@@ -20,9 +20,7 @@ compares Corrected k l = refl
 
 root-compares : (c : tie.In_default) → compares_roots (plan_is c.args.plan) ≡ true
 root-compares c =
-    compares c.args.plan
-    (λ e. ⊎_elim (λ z. omega arith) (⊎_elim (λ z. omega arith) (⊎_elim (λ z. omega arith) (λ z. omega arith))) (rw e at c.in-KnownDeviation.keys2))
-    c.requires.0.logs
+    compares c.args.plan c.in_default.not-KnownDeviation c.requires.0.logs
 
 root-row-requires : tie.Need-root_row-requires
 root-row-requires c κs =
