@@ -26,14 +26,13 @@ said c = valid _ _ c.check_sheet-checked.ensures c.in-Accepted.is
 returns : tie.Need-returns-in_default
 unfolding converted
 returns c =
-    let k = c.before in
     kept (size-refused _ _ c.args.size (no_size c.args.size c.of.ensures c.in_default.is)) (ap outcome_is c.refused.ensures) _ _
 
 returns-2 : tie.Need-returns-in_default-checked
 unfolding converted
 returns-2 c =
     let t = c.in_default-checked.is in
-    let d = c.before.before.before in
+    let d = c.before.before in
     let z = c.in-Known.size in
     kept (sheet-refused _ _ z (is-size d) (refused-sheet z _ (sym c.check_sheet-checked.ensures ∙ t))) (c.checked_outcome.ensures ∙ ap check_is t) _ _
 
@@ -41,7 +40,7 @@ returns-3 : tie.Need-returns-then-limits
 unfolding converted
 returns-3 c =
     let k = c.before.before.before.before.before in
-    let d = k.before.before.before in
+    let d = k.before in
     kept (narrowing-refused _ _ c.in-Known.size (is-size d) (said k) refl c.if-limits.true) (ap outcome_is c.refused-then-limits.ensures) _ _
 
 -- the sheet that is carried over
@@ -69,7 +68,7 @@ unfolding converted carrying
 returns-4 c =
     let r = c.before.before in
     let k = carrying r.before in
-    let d = k.before.before.before in
+    let d = k.before in
     kept (output-refused _ _ c.in-Known.size (is-size d) (said k) refl c.if-limits.false
     (rw (c.added_bytes-added.ensures, c.records_in.ensures) at c.if-output-added.true)) (ap outcome_is c.refused-then-output-added.ensures) _ _
 
@@ -95,7 +94,7 @@ returns-5 c =
     let f = y.before.before in
     let r = f.before in
     let k = carrying r.before in
-    let d = k.before.before.before in
+    let d = k.before in
     carried _ _ c.in-Known.size (is-size d) (said k) refl c.if-limits.false (room f) (rw c.added_bytes-added.ensures at c.recast.ensures)
 
 pub convert_spec : {M : Type 1} → statement M
