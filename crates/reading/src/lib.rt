@@ -181,7 +181,7 @@ pub struct Turn {
     pub left: usize,
 }
 
-// A reader that stands at the number is read and moved on. The parameters are plain, so whoever calls it needs no walk of a reader.
+// A reader that stands at the number is read and moved on.
 pub fn turn_at(size: usize, bytes: &[u8], at: usize) -> Turn
     ensures { result ≡ turn_at_lem size bytes.now at }
 {
