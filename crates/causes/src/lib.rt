@@ -21,7 +21,7 @@ const LAST_ROW: u64 = Plan::IN_SERVICE_LAST_ROW as u64;
 
 // How many rows' statistics may be looked at: all of them, or those before the row that equal cause or referral ends the series at, or that
 // a pending finding holds it at.
-#[derive(Drop)]
+#[derive(Clone, Copy)]
 pub enum Gate {
     Open(u8),
     Cause(u8),

@@ -14,7 +14,7 @@ use record::record_at;
 use summary::Summary;
 
 // Why a sheet is turned down: "number and record counted from 0".
-#[derive(Drop)]
+#[derive(Clone, Copy)]
 pub struct Refusal {
     pub number: u8,
     pub place: u8,
@@ -44,7 +44,7 @@ impl Refusal {
 }
 
 // The check's answer: what an accepted sheet says, or why the sheet is refused.
-#[derive(Drop)]
+#[derive(Clone, Copy)]
 pub enum Checked {
     Accepted(Summary),
     Refused(Refusal),

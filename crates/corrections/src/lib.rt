@@ -12,7 +12,7 @@ use record::{RUN_IN, kind_of, measurement_at, measurement_of, record_at};
 use values::GREATEST;
 
 // The pollutant's value after running-in, and the first engine's measurement; 1 and 1 on a sheet without running-in.
-#[derive(Drop)]
+#[derive(Clone, Copy)]
 pub struct Correction {
     pub value: u32,
     pub first: u32,

@@ -8,7 +8,7 @@ ghost use Rattle.decisions.specs.Decisions.{decision_is, is_declared, pair_is};
 ghost use Rattle.decisions.specs.Decisions.{no_decisions, decisions_with, decisions_is, declared_is_lem};
 
 // What is said of a pollutant, with the engine where there is one.
-#[derive(Drop)]
+#[derive(Clone, Copy)]
 pub enum Decision {
     Undeclared,
     Open,
@@ -17,7 +17,7 @@ pub enum Decision {
 }
 
 // "decision (0 open or undeclared, 1 pass, 2 fail) and engine (0 where the decision is 0)"
-#[derive(Drop)]
+#[derive(Clone, Copy)]
 pub struct Pair {
     pub decision: u8,
     pub engine: u8,
@@ -74,7 +74,7 @@ impl Decision {
 }
 
 // A decision for each pollutant, "carbon monoxide, hydrocarbons, nitrogen oxides, particulates" and two more, which no sheet of 20-byte records declares.
-#[derive(Drop)]
+#[derive(Clone, Copy)]
 pub struct Decisions {
     pub co: Decision,
     pub hc: Decision,

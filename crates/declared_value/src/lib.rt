@@ -11,7 +11,7 @@ use values::{any_outside, is_outside};
 const MOST_TESTS: usize = 3;
 
 // "The answer is another test, or sum and count (declared value and 1 where it stands)."
-#[derive(Drop)]
+#[derive(Clone, Copy)]
 pub enum Approval {
     Another,
     Value { sum: u32, count: u32 },

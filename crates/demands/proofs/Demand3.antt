@@ -26,7 +26,8 @@ module _ (w q : ℕ) where
   series-ends b a e = ⊎_elim inl (λ h. inr (h, held-pending w q b h)) (final-so w q b (sheet-ends w q b a e))
 
   -- Two accepted sheets in plan 1 or 3, alike in all but the measurements, none higher in the second.
-  module _ (R S : List ℕ) (alike : Alike w R S) (lower : NoneHigher w R S)
+  -- (The bytes of a limit and a deviation, 4 to 11, lie in a record where the format has room for two pollutants.)
+  module _ (room : 2 ≤ w) (R S : List ℕ) (alike : Alike w R S) (lower : NoneHigher w R S)
       (plan : (plan_number (records w R) ≡ 1) ⊎ (plan_number (records w R) ≡ 3))
       (first : Accepted w q R) (second : Accepted w q S) (n : ℕ) where
     -- 02, F-2: "On a run-in sheet the run-in values are measurements too; lowering keeps its meaning there if the first engine's zero-hour
@@ -64,16 +65,19 @@ module _ (w : ℕ) (either : (w ≡ pollutants) ⊎ (w ≡ more_pollutants)) whe
   module _ (R S : List ℕ) (alike : Alike w R S) (lower : NoneHigher w R S)
       (plan : (plan_number (records w R) ≡ 1) ⊎ (plan_number (records w R) ≡ 3))
       (first : Accepted w squarings R) (second : Accepted w squarings S) (n : ℕ) where
+    room : 2 ≤ w
+    room = ⊎_elim (λ e. omega arith) (λ e. omega arith) either
+
     module _ (zero_hours : SameZeroHours w R S) where
       pub passes-no-later-run-in : PassesAt w squarings R n → PassesBy w squarings S n
-      passes-no-later-run-in = lower-passes-run-in w squarings R S alike lower plan first second n zero_hours
+      passes-no-later-run-in = lower-passes-run-in w squarings room R S alike lower plan first second n zero_hours
 
       pub fails-no-sooner-run-in : FailsAt w squarings S n → FailsBy w squarings R n
-      fails-no-sooner-run-in = lower-fails-run-in w squarings R S alike lower plan first second n zero_hours
+      fails-no-sooner-run-in = lower-fails-run-in w squarings room R S alike lower plan first second n zero_hours
 
     module _ (plain : NotRunIn w R) where
       pub passes-no-later : PassesAt w squarings R n → PassesBy w squarings S n
-      passes-no-later = lower-passes w squarings R S alike lower plan first second n plain
+      passes-no-later = lower-passes w squarings room R S alike lower plan first second n plain
 
       pub fails-no-sooner : FailsAt w squarings S n → FailsBy w squarings R n
-      fails-no-sooner = lower-fails w squarings R S alike lower plan first second n plain
+      fails-no-sooner = lower-fails w squarings room R S alike lower plan first second n plain

@@ -16,7 +16,7 @@ use Rattle.demands.proofs.Lower.{MeasuredLe, LowerAt, passes-by, fails_by_lem}
 
 -- ---- the measurements of the records of a kind that holds some, of engines and of run-in values
 
-measured-lower : {w : ℕ} {rs ts : List Record} (k : ℕ) → measures k ≡ true → (p : ℕ) → 1 ≤ p → p ≤ w
+measured-lower : {w : ℕ} (k : ℕ) {rs ts : List Record} → measures k ≡ true → (p : ℕ) → 1 ≤ p → p ≤ w
     → Pairs (λ (a b : Record). (eqb (kind a) k ≡ true) × Same w a b) rs ts → InRange p rs → InRange p ts → MeasuredLe p rs ts
 measured-lower k m p l h none i j = none
 measured-lower k m p l h (more {x} s r) i j =

@@ -18,7 +18,7 @@ use summary::Summary;
 use tally::{Numbers, judgement_of};
 
 // "answer: passes surely, fails surely, or depends", with "the latest engine at which any of them is decided"; or a refusal.
-#[derive(Drop)]
+#[derive(Clone, Copy)]
 pub enum Range {
     PassesSurely(u8),
     FailsSurely(u8),

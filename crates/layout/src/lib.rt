@@ -6,14 +6,14 @@ ghost use Rattle.rules.specs.Sheet.{size, most};
 ghost use Rattle.layout.specs.Sizes.{width_is, name_of};
 
 // The size of a record, 20 or 28 bytes: by it a sheet is cut into records, and it tells how many pollutants there may be.
-#[derive(Drop)]
+#[derive(Clone, Copy)]
 pub enum Size {
     Twenty,
     TwentyEight,
 }
 
 // "Callers name the size" (02, F-10), and may name one that there is not.
-#[derive(Drop)]
+#[derive(Clone, Copy)]
 pub enum Named {
     Known(Size),
     Unknown,

@@ -6,7 +6,7 @@ ghost use Rattle.rules.specs.Printed.{decimal};
 ghost use Rattle.lines.specs.Writing.{nothing, with_byte_lem, with_bytes, Adds};
 
 // What has been written: the first `length` of the bytes. What finds no room is left out; each contract over lines says that there is room.
-#[derive(Drop)]
+#[derive(Clone, Copy)]
 pub struct Lines {
     pub bytes: [u8; 256],
     pub length: usize,

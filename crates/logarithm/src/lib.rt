@@ -12,7 +12,7 @@ use values::GREATEST;
 const STEPS: u32 = 20;
 
 // A logarithm in the making: the bits found so far, first bit highest, and the number that is squared next, M.
-#[derive(Drop)]
+#[derive(Clone, Copy)]
 struct Unfinished {
     bits: u32,
     scaled: u64,
@@ -63,7 +63,7 @@ pub fn log2(m: u32) -> u32
 }
 
 // Four numbers, or the logarithms of four.
-#[derive(Drop)]
+#[derive(Clone, Copy)]
 pub struct Four {
     pub a: u32,
     pub b: u32,

@@ -7,7 +7,7 @@ ghost use Rattle.outcomes.specs.Outcomes.{outcome_is, check_is};
 use checking::{Checked, Refusal};
 
 // Done, or the refusal that append, report and the converter return.
-#[derive(Drop)]
+#[derive(Clone, Copy)]
 pub enum Outcome {
     Done,
     Refused(Refusal),

@@ -6,7 +6,7 @@ ghost use Rattle.rules.specs.Plans.{plan_of, last_row_lem};
 ghost use Rattle.plan.specs.Plan.{plan_is};
 
 // By which plan a sheet is judged.
-#[derive(Drop)]
+#[derive(Clone, Copy)]
 pub enum Plan {
     KnownDeviation,
     UnknownDeviation,

@@ -13,7 +13,7 @@ use record::{
 };
 
 // What stands at a number: a record of one of the five kinds, one of a kind that there is not, or the end of the whole records.
-#[derive(Drop)]
+#[derive(Clone, Copy)]
 pub enum Step {
     Pollutant {
         number: u32,

@@ -29,7 +29,7 @@ pub const RUN_IN: u32 = 6;
 pub const PENDING: u32 = 65_535;
 
 // A number for each pollutant, "carbon monoxide, hydrocarbons, nitrogen oxides, particulates", and for the two more that 02, F-10, does not name.
-#[derive(Drop)]
+#[derive(Clone, Copy)]
 pub struct Quantities {
     pub co: u32,
     pub hc: u32,

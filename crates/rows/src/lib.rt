@@ -15,7 +15,7 @@ ghost use Rattle.rows.specs.Ranges.{KnownRanges, RootRanges, MagnitudeRange, Ent
 use plan::Plan;
 
 // What a row says of one pollutant.
-#[derive(Drop)]
+#[derive(Clone, Copy)]
 pub enum Row {
     Open,
     Pass,

@@ -18,13 +18,25 @@ use Rattle.layout.specs.declared.Named.TheVariants.{Known, Unknown}
 use Rattle.layout.specs.Sizes.{width_is, name_of}
 use Rattle.layout.proofs.Sizes.{width-range, known-size, known-width, unknown-size}
 use Rattle.summary.specs.declared.Summary.{Summary}
-use Rattle.checking.specs.Check.{Valid}
+use Rattle.checking.specs.declared.Refusal.{Refusal}
+use Rattle.checking.specs.declared.Checked.{Checked}
+use Rattle.checking.specs.declared.Checked.TheVariants as checked
+use Rattle.checking.specs.Check.{checked_of, Valid}
 use Rattle.checking.proofs.Laws as laws
 use Rattle.tally.specs.declared.Numbers.{Numbers}
 use Rattle.tally.specs.declared.Judgement.{Judgement}
 use Rattle.series.specs.declared.Judged.{Judged}
 use Rattle.tally.specs.Judgements.{numbers_of_lem, judgement_is, six_pairs, JudgementIs}
-use Rattle.series.specs.Answers.{judged_is, DeclaredIs}
+use Rattle.series.specs.Answers.{judged_is, DeclaredIs, refusal_in}
+
+-- ---- the check's answer
+
+module _ (z : Size) (b : List ℕ) {c : Checked} (e : c ≡ checked_of z b) where
+  pub valid : {s : Summary} → c ≡ checked.Accepted s → Valid z b s
+  valid f = let a = laws.accepted-sheet z b (sym e ∙ f) in record { accepts = a.0; says = a.1 }
+
+  pub refused-so : {f r : Refusal} → c ≡ checked.Refused f → r ≡ refusal_in c → check (width_is z) b ≡ refused r.number r.place
+  refused-so f q = rw (q, f) (laws.refused-sheet z b (sym e ∙ f))
 
 -- ---- judging and evidence of a refused sheet
 

@@ -7,17 +7,30 @@ ghost use Rattle.rules.specs.Operations as rules;
 ghost use Rattle.rules.specs.Sizes as sizes;
 ghost use Rattle.layout.specs.Sizes.{width_is};
 ghost use Rattle.tally.specs.Judgements.{six_pairs};
-ghost use Rattle.series.specs.Answers.{judged_is, DeclaredIs};
+ghost use Rattle.series.specs.Answers.{judged_is, DeclaredIs, refusal_in};
 
 use checking::{Checked, Refusal, check_sheet};
 use layout::{Named, Size};
 use tally::{Judgement, Numbers, judgement_of};
 
 // What judging answers: a judgement, or the refusal of a sheet that the check does not accept.
-#[derive(Drop)]
+#[derive(Clone, Copy)]
 pub enum Judged {
     Judgement(Judgement),
     Refused(Refusal),
+}
+
+// The refusal in the check's answer.
+fn refusal(checked: Checked) -> Refusal
+    ensures { result ≡ refusal_in checked }
+{
+    match checked {
+        Checked::Accepted(_) => Refusal {
+            number: 0,
+            place: 0,
+        },
+        Checked::Refused(r) => r,
+    }
 }
 
 // Judges the bytes of a sheet of that size, whatever they are.
@@ -27,7 +40,7 @@ pub fn judge_sheet(size: Size, bytes: &[u8]) -> Judged
 {
     let checked = check_sheet(size, bytes);
     let Checked::Accepted(sheet) = checked else {
-        return Judged::Refused(checked.refusal());
+        return Judged::Refused(refusal(checked));
     };
     Judged::Judgement(judgement_of(size, bytes, sheet))
 }
@@ -54,7 +67,7 @@ pub fn evidence<'a>(size: usize, bytes: &'a [u8], code: &mut u32) -> &'a [u8]
     };
     let checked = check_sheet(size, bytes);
     let Checked::Accepted(sheet) = checked else {
-        *code = checked.refusal().code();
+        *code = refusal(checked).code();
         return &bytes[..0];
     };
     *code = 0;

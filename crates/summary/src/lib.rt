@@ -11,7 +11,7 @@ use record::{
 };
 
 // What is kept of the records read so far: all that the refusal of the next one looks back at, and what judging starts from.
-#[derive(Drop)]
+#[derive(Clone, Copy)]
 pub struct Summary {
     // The kind of the last record, 0 where there is none.
     pub kind: u32,

@@ -18,7 +18,7 @@ use statistics::column;
 use summary::Summary;
 
 // A verdict with its engine; for another, the engines so far, and for held the row. A fail has its ground in its name.
-#[derive(Drop)]
+#[derive(Clone, Copy)]
 pub enum Verdict {
     Another(u8),
     Pass(u8),
@@ -30,7 +30,7 @@ pub enum Verdict {
 }
 
 // "verdict (0 another, 1 pass, 2 fail, 3 referred), engine (for another, the engines so far), ground (0 none, 1 a row, 2 equal cause, 3 stopped, 4 referred)"; 02, F-5: "the verdict is 4, printed `held`, at that row with ground 5"
-#[derive(Drop)]
+#[derive(Clone, Copy)]
 pub struct Numbers {
     pub verdict: u8,
     pub engine: u8,
@@ -65,14 +65,14 @@ impl Verdict {
 }
 
 // What is said of an accepted sheet: the verdict, and a decision for each pollutant.
-#[derive(Drop)]
+#[derive(Clone, Copy)]
 pub struct Judgement {
     pub verdict: Verdict,
     pub decisions: Decisions,
 }
 
 // What the columns so far say: the rows that count for the next, the latest pass, whether one has failed or is open, and the decisions.
-#[derive(Drop)]
+#[derive(Clone, Copy)]
 pub struct Tally {
     pub rows: u8,
     pub latest: u8,

@@ -1,5 +1,5 @@
 -- The test is the definition's: by whether the pollutant is declared, and whether the measurement is 0.
-use Rattle.arithmetic.proofs.Basics.{ℕ, zero, suc, arith, ◌≡◌, refl, ap, ◌∙◌, Bool, true, false, not, ◌||◌, cond, eqb, ltb, not-ltb, ne_eqb, le-leb, needs}
+use Rattle.arithmetic.proofs.Basics.{ℕ, zero, suc, arith, ◌≡◌, refl, ap, ◌∙◌, Bool, true, false, not, ◌||◌, cond, eqb, ltb, not-ltb, ne_eqb, le-leb, rules}
 use mathlib.Core.Bool.{beq}
 use Rattle.rules.specs.Tools.{within}
 use Rattle.rules.specs.Logarithm.{greatest}
@@ -20,11 +20,11 @@ test true (suc x) = rw (ne_eqb (suc x) 0 (λ z. omega arith)) refl
 test false zero = refl
 test false (suc x) = rw (ne_eqb (suc x) 0 (λ z. omega arith)) (some x)
 
-pub bad-value-spec : {M : Type 1} → statement M
-bad-value-spec =
+pub bad_value_spec : {M : Type 1} → statement M
+bad_value_spec =
     tie.close
     (tie.spec
-    (λ c κs. search needs)
+    (λ c κs. search rules)
     (λ c.
     let limit : ℕ = c.before.before.args.limit in
-    test (eqb limit 0) c.measurement-of.result ∙ ap (bad_value_by limit) c.measurement-of.ensures))
+    test (eqb limit 0) c.measurement_of-x.result ∙ ap (bad_value_by limit) c.measurement_of-x.ensures))

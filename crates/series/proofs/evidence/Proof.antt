@@ -2,8 +2,7 @@
 use Rattle.arithmetic.proofs.Basics.{sym, ap, ◌∙◌, arith, length-take-le, needs}
 use Rattle.rules.specs.Operations.{code}
 use Rattle.checking.specs.Check.{Valid}
-use Rattle.checking.proofs.Laws.{valid, refused-so}
-use Rattle.series.proofs.Judging.{evidence-refused, evidence-fits, evidence-small, evidence-part, evidence-whole}
+use Rattle.series.proofs.Judging.{valid, refused-so, evidence-refused, evidence-fits, evidence-small, evidence-part, evidence-whole}
 use Rattle.series.proofs.Judging.{evidence-unknown, evidence-known, check-unknown, check-known}
 use Rattle.series.proofs.evidence.Statement.{statement}
 use Rattle.series.proofs.evidence.Tie as tie
@@ -30,7 +29,7 @@ returns-2 c =
       c.before.code2.ensures ∙ ap code (sym h ∙ check-known _ _ o n.size.given.1),
     )
 
-mul-end : tie.Need-overflow-mul-end
+mul-end : tie.Need-overflow_mul-end
 mul-end c =
     let n = c.before.before.before in
     let f = evidence-small (accepted n.before.before) n.before.judgement-of.ensures n.numbers.ensures in

@@ -1,7 +1,6 @@
 -- `judge_sheet` meets its contract: the check's refusal, or the judgement of an accepted sheet.
 use Rattle.arithmetic.proofs.Basics.{needs}
-use Rattle.checking.proofs.Laws.{valid, refused-so}
-use Rattle.series.proofs.Judging.{judge-refused, judge-accepted}
+use Rattle.series.proofs.Judging.{valid, refused-so, judge-refused, judge-accepted}
 use Rattle.series.proofs.judge_sheet.Statement.{statement}
 use Rattle.series.proofs.judge_sheet.Tie as tie
 

@@ -1,11 +1,11 @@
 -- The test is the definition's, part by part.
-use Rattle.arithmetic.proofs.Basics.{refl, needs}
+use Rattle.arithmetic.proofs.Basics.{refl, rules}
 use Rattle.zeros.proofs.unused_from_twelve.Statement.{statement}
 use Rattle.zeros.proofs.unused_from_twelve.Tie as tie
 
-pub unused-from-twelve-spec : {M : Type 1} → statement M
-unused-from-twelve-spec =
+pub unused_from_twelve_spec : {M : Type 1} → statement M
+unused_from_twelve_spec =
     tie.close
     (tie.spec
-    (λ c κs. search needs) (λ c κs. search needs) (λ c κs. search needs)
-    (λ c. rw (c.unused-behind.ensures, c.before.u32-at2.ensures, c.before.before.u32-at.ensures) refl))
+    (λ c κs. search rules) (λ c κs. search rules) (λ c κs. search rules)
+    (λ c. rw (c.unused_behind.ensures, c.before.u32_at-2.ensures, c.before.before.u32_at.ensures) refl))

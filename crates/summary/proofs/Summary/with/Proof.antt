@@ -1,31 +1,31 @@
 -- Each branch is one of the definition's.
-use Rattle.arithmetic.proofs.Basics.{refl, ne_eqb, needs}
+use Rattle.arithmetic.proofs.Basics.{refl, ne_eqb, rules}
 use Rattle.summary.specs.State.{summary_with}
 use Rattle.summary.proofs.Summary.with.Statement.{statement}
 use Rattle.summary.proofs.Summary.with.Tie as tie
 
-pollutant : tie.Need-returns-2
+pollutant : tie.Need-returns-then-kind-eq-POLLUTANT
 unfolding summary_with
 pollutant c =
     let l = c.before in
     let o = l.before.before in
     let n = o.before.before.before.before in
     let t = n.before.before in
-    rw (← t.before.before.kind-of.ensures.0, t.if2.true, c.with.ensures, l.limit-of.ensures, l.before.last_row.ensures)
-    (rw (o.of.ensures, n.number_of.ensures.0, n.before.plan-of.ensures.0) refl)
+    rw (← t.before.before.kind_of-kind.ensures.0, t.if-kind-eq-POLLUTANT.true, c.with-self.ensures, l.limit_of.ensures, l.before.last_row.ensures)
+    (rw (o.of.ensures, n.number_of-number.ensures.0, n.before.plan_of-plan.ensures.0) refl)
 
-pub with-spec : {M : Type 1} → statement M
+pub with_spec : {M : Type 1} → statement M
 unfolding summary_with
-with-spec =
+with_spec =
     tie.close
     (tie.spec
-    (λ c κs. search needs) (λ c. search needs) (λ c κs. search needs) (λ c κs. search needs) (λ c. search needs) (λ c. search needs) (λ c κs. search needs)
-    (λ c κs. search needs) (λ c κs. search needs) (λ c κs. search needs) (λ c. search needs)
-    (λ c. rw (← c.before.before.kind-of.ensures.0, c.before.if1.true) refl)
+    (λ c κs. search rules) (λ c. search rules) (λ c κs. search rules) (λ c κs. search rules) (λ c. search rules) (λ c. search rules) (λ c κs. search rules)
+    (λ c κs. search rules) (λ c κs. search rules) (λ c κs. search rules) (λ c. search rules)
+    (λ c. rw (← c.before.before.kind_of-kind.ensures.0, c.before.if-kind-eq-ENGINE.true) refl)
     pollutant
     (λ c.
     let t = c.before.before in
-    rw (← t.before.before.kind-of.ensures.0, ne_eqb _ _ t.if2.false, ne_eqb _ _ t.before.if1.false, c.before.if3.true) refl)
+    rw (← t.before.before.kind_of-kind.ensures.0, ne_eqb _ _ t.if-kind-eq-POLLUTANT.false, ne_eqb _ _ t.before.if-kind-eq-ENGINE.false, c.before.if-kind.true) refl)
     (λ c.
     let t = c.before in
-    rw (← t.before.before.kind-of.ensures.0, ne_eqb _ _ t.if2.false, ne_eqb _ _ t.before.if1.false, c.if3.false) refl))
+    rw (← t.before.before.kind_of-kind.ensures.0, ne_eqb _ _ t.if-kind-eq-POLLUTANT.false, ne_eqb _ _ t.before.if-kind-eq-ENGINE.false, c.if-kind.false) refl))
