@@ -36,9 +36,9 @@ next-read old mid new before buffer size moved tries (Moved zero) room kept firs
 next-read old mid new before buffer size moved tries (Moved (suc n)) room kept first gives =
     let more = consumed-more old mid new moved (suc n) before buffer kept first gives.0 in
     further-is (HasRead old new buffer) size (moved + suc n) (λ g. more) (λ l. more)
-next-read old mid new before buffer size moved zero (Again pause) room kept first gives = tt
+next-read old mid new before buffer size moved zero (Again pause) room kept first gives = (moved, consumed-kept old mid new moved before buffer kept first gives)
 next-read old mid new before buffer size moved (suc tries) (Again pause) room kept first gives = consumed-kept old mid new moved before buffer kept first gives
-next-read old mid new before buffer size moved tries Broken room kept first gives = tt
+next-read old mid new before buffer size moved tries Broken room kept first gives = (moved, consumed-kept old mid new moved before buffer kept first gives)
 
 -- ---- writing
 
@@ -55,9 +55,9 @@ next-written old mid new bytes size moved tries (Moved zero) first takes = rw ad
 next-written old mid new bytes size moved tries (Moved (suc n)) first takes =
     let more = appended-more old mid new moved (suc n) bytes first takes in
     further-is (HasWritten old new bytes) size (moved + suc n) (λ g. more) (λ l. more)
-next-written old mid new bytes size moved zero (Again pause) first takes = tt
+next-written old mid new bytes size moved zero (Again pause) first takes = (moved, Appends-kept old mid new _ first takes)
 next-written old mid new bytes size moved (suc tries) (Again pause) first takes = Appends-kept old mid new _ first takes
-next-written old mid new bytes size moved tries Broken first takes = tt
+next-written old mid new bytes size moved tries Broken first takes = (moved, Appends-kept old mid new _ first takes)
 
 -- ---- why a transfer failed
 

@@ -29,19 +29,19 @@ IsTold error Broken = IsSome error
 
 -- ---- a transfer
 
--- the buffer begins with the bytes that the reader gave, in their order; a transfer that ended has all that the reader had
+-- the buffer begins with the bytes that the reader gave, in their order; a transfer that ended has all that the reader had, and one that failed some
 abbrev pub HasRead : (old new : Option (List ℕ)) (buffer : List ℕ) → Transfer → Type 0
 HasRead old new buffer (Open moved tries pause) = Consumes old new (take moved buffer)
 HasRead old new buffer (Ended moved) = Consumes old new (take moved buffer) × IsAtEnd new
 HasRead old new buffer (Full moved) = Consumes old new (take moved buffer)
-HasRead old new buffer Failed = Unit {0}
+HasRead old new buffer Failed = (some : ℕ) × Consumes old new (take some buffer)
 
--- the writer has the first of the bytes, in their order, behind those that it held
+-- the writer has the first of the bytes, in their order, behind those that it held; it is not said how many where a transfer failed
 abbrev pub HasWritten : (old new : Option (List ℕ)) (bytes : List ℕ) → Transfer → Type 0
 HasWritten old new bytes (Open moved tries pause) = Appends old new (take moved bytes)
 HasWritten old new bytes (Ended moved) = Appends old new (take moved bytes)
 HasWritten old new bytes (Full moved) = Appends old new (take moved bytes)
-HasWritten old new bytes Failed = Unit {0}
+HasWritten old new bytes Failed = (some : ℕ) × Appends old new (take some bytes)
 
 -- why a transfer failed
 abbrev pub TellsWhy : Option Error → Transfer → Type 0
