@@ -3,11 +3,11 @@
 // No contract can say what a file gives or takes. What `judge` says is of a reader and a writer whose bytes are known, and it is proved for any of them.
 #![tactic(auto)]
 
-ghost use Rattle.std.specs.Prelude.{length, IfSome};
+ghost use Rattle.std.specs.Prelude.{◌≡◌, ◌↔◌, length, IfSome, IsTrue};
 ghost use Rattle.rules.specs.Logarithm.{squarings};
 ghost use Rattle.rules.specs.Sheet.{pollutants};
 ghost use Rattle.rules.specs.Printed.{printed};
-ghost use Rattle.lines.specs.Writing.{Kept, held};
+ghost use Rattle.lines.specs.Writing.{ascii, Kept, held};
 ghost use Rattle.transfers.specs.Transfers.{Over};
 ghost use Rattle.transfers.specs.Bytes.{HasWritten};
 ghost use Rattle.verdict.specs.Input.{Whole};
@@ -54,7 +54,10 @@ fn reason<'a>(error: &Error, room: &'a mut [u8]) -> &'a str {
 // What went wrong, and why, on standard error. Where no call failed, one that had bytes to write took none of them.
 fn fail<C: Clock, E: Write>(clock: &C, errors: &mut E, what: &[u8], error: Option<Error>) {
     let mut room = [0u8; 256];
-    let words = reason(&error.unwrap_or(Error::from(ErrorKind::WriteZero)), &mut room);
+    let words = reason(
+        &error.unwrap_or(Error::from(ErrorKind::WriteZero)),
+        &mut room,
+    );
     say(clock, errors, b"verdict: ");
     say(clock, errors, what);
     say(clock, errors, b": ");
@@ -132,7 +135,9 @@ fn judge<C: Clock, I: Read, O: Write, E: Write>(
     }
 }
 
-fn is_help(word: &[u8]) -> bool {
+fn is_help(word: &[u8]) -> bool
+    ensures { IsTrue result ↔ (word.now ≡ ascii "--help") }
+{
     word == b"--help".as_slice()
 }
 
@@ -161,7 +166,13 @@ fn judge_argument(rt: &HostRuntime) {
         Ok(n) => judge_file(rt, &name[..n]),
         Err(FillError::NotPresent) => {
             let mut output = rt.stdout();
-            judge(rt, &mut rt.stdin(), &mut output, &mut errors, b"standard input");
+            judge(
+                rt,
+                &mut rt.stdin(),
+                &mut output,
+                &mut errors,
+                b"standard input",
+            );
         }
         Err(FillError::TooLong) => {
             let error = Error::from_raw_os_error(ENAMETOOLONG);
