@@ -16,40 +16,32 @@ use Rattle.converting.proofs.Answering.{size-refused, sheet-refused, narrowing-r
 use Rattle.converting.proofs.convert.Statement.{statement}
 use Rattle.converting.proofs.convert.Tie as tie
 
--- the size that was named, and the function's entry
-named : tie.After-check_sheet-checked → tie.In-Known-2
-named c = c.before.before
-
-is-size : (c : tie.After-check_sheet-checked) → let n = named c in n.args.size-1 ≡ size (width_is n.in-Known.size)
-unfolding named
-is-size c = let n = named c in size_is _ n.of.ensures n.in-Known.is
+is-size : (c : tie.After-check_sheet-checked) → c.args.size ≡ size (width_is c.in-Known.size)
+is-size c = size_is _ c.of.ensures c.in-Known.is
 
 -- the check accepts the sheet
-said : (c : tie.In-Accepted) → let d = c.before.before.before in let n = named d in
-    Valid n.in-Known.size n.args.sheet.now c.in-Accepted.said
-unfolding named
+said : (c : tie.In-Accepted) → Valid c.in-Known.size c.args.sheet.now c.in-Accepted.said
 said c = valid _ _ c.check_sheet-checked.ensures c.in-Accepted.is
 
 returns : tie.Need-returns-in_default
 unfolding converted
 returns c =
-    let k = c.before in
-    kept (size-refused _ _ c.args.size-1 (no_size c.args.size-1 c.of.ensures c.in_default.is)) (ap outcome_is c.refused.ensures) _ _
+    kept (size-refused _ _ c.args.size (no_size c.args.size c.of.ensures c.in_default.is)) (ap outcome_is c.refused.ensures) _ _
 
 returns-2 : tie.Need-returns-in_default-checked
-unfolding converted named
+unfolding converted
 returns-2 c =
     let t = c.in_default-checked.is in
-    let d = c.before.before.before in
-    let z = (named d).in-Known.size in
+    let d = c.before.before in
+    let z = c.in-Known.size in
     kept (sheet-refused _ _ z (is-size d) (refused-sheet z _ (sym c.check_sheet-checked.ensures ∙ t))) (c.checked_outcome.ensures ∙ ap check_is t) _ _
 
 returns-3 : tie.Need-returns-then-limits
-unfolding converted named
+unfolding converted
 returns-3 c =
     let k = c.before.before.before.before.before in
-    let d = k.before.before.before in
-    kept (narrowing-refused _ _ (named d).in-Known.size (is-size d) (said k) refl c.if-limits.true) (ap outcome_is c.refused-then-limits.ensures) _ _
+    let d = k.before in
+    kept (narrowing-refused _ _ c.in-Known.size (is-size d) (said k) refl c.if-limits.true) (ap outcome_is c.refused-then-limits.ensures) _ _
 
 -- the sheet that is carried over
 carrying : tie.After-added_bytes-added → tie.In-Accepted
@@ -61,56 +53,56 @@ added-most TwentyEight = omega arith
 
 -- its records are few, so that the room for them is a number
 few : (c : tie.After-records_in) → (20 + c.added_bytes-added.result) * c.records_in.result ≤ size more_pollutants * most more_pollutants
-unfolding carrying named
+unfolding carrying
 few c =
     let k = carrying c.before in
-    let z = (named k.before.before.before).in-Known.size in
+    let z = c.in-Known.size in
     let w = width_is z in
-    let n = div-le_of_le-mul (size w) {m = length (named k.before.before.before).args.sheet.now} {n = most w} (omega (arith, (sound w _ (said k).accepts).longest)) in
+    let n = div-le_of_le-mul (size w) {m = length c.args.sheet.now} {n = most w} (omega (arith, (sound w _ (said k).accepts).longest)) in
     let bytes : 20 + c.added_bytes-added.result ≤ size more_pollutants = omega (arith, c.added_bytes-added.ensures, added-most z) in
     let many : c.records_in.result ≤ most more_pollutants = omega (arith, c.records_in.ensures, width-range z, n) in
     mul-le-mul bytes many
 
 returns-4 : tie.Need-returns-then-output-added
-unfolding converted named carrying
+unfolding converted carrying
 returns-4 c =
     let r = c.before.before in
     let k = carrying r.before in
-    let d = k.before.before.before in
-    kept (output-refused _ _ (named d).in-Known.size (is-size d) (said k) refl c.if-limits.false
+    let d = k.before in
+    kept (output-refused _ _ c.in-Known.size (is-size d) (said k) refl c.if-limits.false
     (rw (c.added_bytes-added.ensures, c.records_in.ensures) at c.if-output-added.true)) (ap outcome_is c.refused-then-output-added.ensures) _ _
 
 -- there is room for it
-room : (c : tie.Else-output-added) → let r = c.before in let n = named (carrying r.before).before.before.before in let z = n.in-Known.size in let a = n.args in
-    (20 + added_bytes_lem z) * (length a.sheet.now / size (width_is z)) ≤ length a.output-1.now
-unfolding carrying named
+room : (c : tie.Else-output-added) → let z = c.in-Known.size in let a = c.args in
+    (20 + added_bytes_lem z) * (length a.sheet.now / size (width_is z)) ≤ length a.output.now
+unfolding carrying
 room c = rw (c.added_bytes-added.ensures, c.records_in.ensures) at c.if-output-added.false
 
 recast-requires : tie.Need-recast-requires
-unfolding carrying named
+unfolding carrying
 recast-requires c κs =
     let b = c.before.before.before in
     let k = carrying b in
-    let z = (named k.before.before.before).in-Known.size in
+    let z = c.in-Known.size in
     let s = sound (width_is z) _ (said k).accepts in
     rw c.added_bytes-added.ensures (record { wide = (width-range z).0; whole = s.whole; few = added-most z; room = room c.before })
 
 returns-5 : tie.Need-returns
-unfolding converted named carrying
+unfolding converted carrying
 returns-5 c =
     let y = c.before.before in
     let f = y.before.before in
     let r = f.before in
     let k = carrying r.before in
-    let d = k.before.before.before in
-    carried _ _ (named d).in-Known.size (is-size d) (said k) refl c.if-limits.false (room f) (rw c.added_bytes-added.ensures at c.recast.ensures)
+    let d = k.before in
+    carried _ _ c.in-Known.size (is-size d) (said k) refl c.if-limits.false (room f) (rw c.added_bytes-added.ensures at c.recast.ensures)
 
 pub convert_spec : {M : Type 1} → statement M
-unfolding converted named carrying
+unfolding converted carrying
 convert_spec =
     tie.close
     (tie.spec
     (λ c κs. search rules) (λ c. search rules) (λ c. search rules) (λ c κs. search rules) returns
     (λ c κs. search rules) (λ c. search rules) (λ c. search rules) (λ c κs. search rules) returns-2 (λ c κs. search rules) returns-3
-    (λ c κs. search rules) (λ c. omega (arith, c.added_bytes-added.ensures, added-most (named (carrying c).before.before.before).in-Known.size)) (λ c κs. search rules) (λ c. omega (arith, few c)) (λ c κs. search rules) returns-4
+    (λ c κs. search rules) (λ c. omega (arith, c.added_bytes-added.ensures, added-most c.in-Known.size)) (λ c κs. search rules) (λ c. omega (arith, few c)) (λ c κs. search rules) returns-4
     recast-requires (λ c. search rules) returns-5)
