@@ -1,8 +1,8 @@
 -- An input that is longer than the longest sheet is refused whatever it holds, so that the lines of its beginning are its lines.
-use Rattle.arithmetic.proofs.Basics.{ℕ, ◌*◌, ◌<◌, ◌≡◌, refl, sym, ap, ◌∙◌, subst, arith, Bool, ◌||◌, List, [], ◌∷◌, ◌++◌, length, length-append, lt-ltb, or-true}
+use Rattle.arithmetic.proofs.Basics.{ℕ, ◌<◌, ◌≡◌, sym, ◌∙◌, subst, arith, Bool, List, [], ◌∷◌, ◌++◌, length, length-append, lt-ltb, or-true}
 use Rattle.std.specs.Prelude.{Option, None, Some, IfSome}
 use Rattle.std.specs.Io.KnownBytes.{Consumes}
-use Rattle.rules.specs.Sheet.{pollutants, longest, size, most, records, declared}
+use Rattle.rules.specs.Sheet.{pollutants, longest}
 use Rattle.rules.specs.Refusals.{check, bad_length_lem}
 use Rattle.rules.specs.Operations.{judge}
 use Rattle.rules.specs.Printed.{printed, line, decimal, refused_word}
