@@ -1,5 +1,5 @@
 -- `first_row` meets its contract: in plan 4 by the causes of the first three vehicles, and in the other plans there are none.
-use Rattle.arithmetic.proofs.Basics.{ℕ, ◌+◌, ◌<◌, arith, ◌≡◌, refl, ⊎_elim, false, not, ◌||◌, cond, eqb, needs}
+use Rattle.arithmetic.proofs.Basics.{ℕ, ◌+◌, ◌<◌, arith, ◌≡◌, refl, false, not, ◌||◌, cond, eqb, rules}
 use Rattle.accepted.proofs.Sheets.{is_in_service, caused}
 use Rattle.plan.specs.declared.Plan.{Plan}
 use Rattle.plan.specs.declared.Plan.TheVariants.{KnownDeviation, UnknownDeviation, Attributes, InService, Corrected}
@@ -20,29 +20,28 @@ other InService h = absurd (h refl)
 other Corrected h = refl
 
 -- the first three vehicles are engines of the sheet
-vehicle : (c : tie.After-enum-told) (k : ℕ) → k < 3 → let a = c.before.before.before.args in EnginesRange (width_is a.size) a.bytes.now a.start (k + 1)
-vehicle c k l = let p = c.before.before.before.requires in record { sheet = rw c.enum_told.given.1 at p.sheet; some = omega (arith, p.some) }
+vehicle : (c : tie.In-InService) (k : ℕ) → k < 3 → let a = c.args in EnginesRange (width_is a.size) a.bytes.now a.start (k + 1)
+vehicle c k l = let p = c.requires in record { sheet = rw c.in-InService.is at p.sheet; some = omega (arith, p.some) }
 
-by-causes : (c : tie.After-cause-at3) → let a = c.before.before.before.before.before.before.args in
-    cond ((not (eqb c.before.before.cause-at.result 0) || not (eqb c.before.cause-at2.result 0)) || not (eqb c.cause-at3.result 0)) 4 3
+by-causes : (c : tie.After-cause_at-in-InService-2) → let a = c.args in
+    cond ((not (eqb c.cause_at.result 0) || not (eqb c.cause_at-in-InService.result 0)) || not (eqb c.cause_at-in-InService-2.result 0)) 4 3
     ≡ first_row_lem (width_is a.size) a.bytes.now
 by-causes c =
-    rw (c.before.before.cause-at.ensures, c.before.cause-at2.ensures, c.cause-at3.ensures)
-    (first_by _ _ c.before.before.before.before.before.before.requires.some)
+    rw (c.cause_at.ensures, c.cause_at-in-InService.ensures, c.cause_at-in-InService-2.ensures)
+    (first_by _ _ c.requires.some)
 
 -- the plans that are not matched
-plain : tie.Need-returns-3
+plain : tie.Need-returns-in_default
 plain c =
-    let s = c.before.before in
-    let k : is_in_service (plan_is s.args.plan) ≡ false = other s.args.plan (λ e. ⊎_elim (λ z. omega arith) (⊎_elim (λ z. omega arith) (⊎_elim (λ z. omega arith) (λ z. omega arith))) (rw e at c.match.keys2)) in
-    first_plain _ _ (rw k at (caused s.requires.sheet))
+    let k : is_in_service (plan_is c.args.plan) ≡ false = other c.args.plan c.in_default.not-InService in
+    first_plain _ _ (rw k at (caused c.requires.sheet))
 
-pub first-row-spec : {M : Type 1} → statement M
-first-row-spec =
+pub first_row_spec : {M : Type 1} → statement M
+first_row_spec =
     tie.close
     (tie.spec
-    (λ c. search needs)
+    (λ c. search rules)
     (λ c κs. vehicle c 0 (omega arith)) (λ c κs. vehicle c.before 1 (omega arith)) (λ c κs. vehicle c.before.before 2 (omega arith))
-    (λ c. rw c.if1.true at (by-causes c.before))
-    (λ c. rw c.if1.false at (by-causes c.before))
+    (λ c. rw c.if-cause_at.true at (by-causes c.before))
+    (λ c. rw c.if-cause_at.false at (by-causes c.before))
     plain)

@@ -1,19 +1,19 @@
 -- `measured_or_one` meets its contract.
-use Rattle.arithmetic.proofs.Basics.{refl, arith, needs, lt-ltb, le-ltb}
+use Rattle.arithmetic.proofs.Basics.{refl, arith, rules, lt-ltb, le-ltb}
 use Rattle.accepted.proofs.Sheets.{record-inside}
 use Rattle.fours.specs.Fours.{measured_or}
 use Rattle.fours.proofs.measured_or_one.Statement.{statement}
 use Rattle.fours.proofs.measured_or_one.Tie as tie
 
-measured-requires : tie.Need-measurement-at-requires
+measured-requires : tie.Need-measurement_at-requires
 measured-requires c κs =
     let p = c.before.before.requires in
-    record { measured = p.column; inside = record-inside _ _ _ _ p.inside (omega (arith, c.if1.true)) }
+    record { measured = p.column; inside = record-inside _ _ _ _ p.inside (omega (arith, c.if-i-rows.true)) }
 
-pub measured-or-one-spec : {M : Type 1} → statement M
+pub measured_or_one_spec : {M : Type 1} → statement M
 unfolding measured_or
-measured-or-one-spec =
+measured_or_one_spec =
     tie.close
-    (tie.spec (λ c. search needs) measured-requires
-    (λ c. rw (c.measurement-at.ensures, lt-ltb _ _ c.before.if1.true) refl)
-    (λ c. rw (le-ltb _ _ c.if1.false) refl))
+    (tie.spec (λ c. search rules) measured-requires
+    (λ c. rw (c.measurement_at.ensures, lt-ltb _ _ c.before.if-i-rows.true) refl)
+    (λ c. rw (le-ltb _ _ c.if-i-rows.false) refl))

@@ -1,5 +1,5 @@
 -- `magnitude` meets its contract: every step of it fits, and 0 less a number below 0 has the number's magnitude.
-use Rattle.arithmetic.proofs.Basics.{zero-add, arith, ◌≡◌, sym, ◌∙◌, true, false, never, ℤ, pos, ◌-ℤ◌, needs, negsuc, nat_abs, non_neg, lt_z, T}
+use Rattle.arithmetic.proofs.Basics.{zero-add, arith, ◌≡◌, sym, ◌∙◌, true, false, never, ℤ, pos, ◌-ℤ◌, rules, negsuc, nat_abs, non_neg, lt_z, T}
 use Rattle.arithmetic.proofs.Integers.{diff-pos, lt_not}
 use mir.Syntax.{w32, w64}
 use mir.Val.{SFits, to_z, of_z}
@@ -34,24 +34,24 @@ module _ {z : ℤ} (f : SFits w32 z) where
   opposite : lt_z (to_z w32 (of_z w32 z)) (pos 0) ≡ true → Opposite z
   opposite t = opposite-of z f (rw (to_z-of_z w32 z f) at t)
 
-sub-result : tie.Need-overflow-sub-result
-sub-result c = let f = c.before.ranges.x in rw (read_back f) (opposite f c.if1.true).fits
+sub-result : tie.Need-overflow_sub-result
+sub-result c = let f = c.before.ranges.x in rw (read_back f) (opposite f c.if-x-lt0.true).fits
 
-cast-result-2 : tie.Need-overflow-cast-result-2
+cast-result-2 : tie.Need-overflow_cast-result-then-x-lt0
 cast-result-2 c =
     let f = c.before.ranges.x in
-    let o = opposite f c.if1.true in
+    let o = opposite f c.if-x-lt0.true in
     rw (read_back f, to_z-of_z w64 _ o.fits) (o.above, Fits-nat_abs tt o.fits)
 
-cast-result-3 : tie.Need-overflow-cast-result-3
+cast-result-3 : tie.Need-overflow_cast-result-else-x-lt0
 cast-result-3 c =
     let f = c.before.ranges.x in
-    rw (to_z-of_z w32 _ f) (not-below c.before.args.x (rw (to_z-of_z w32 _ f) at c.if1.false), Fits-nat_abs tt f)
+    rw (to_z-of_z w32 _ f) (not-below c.before.args.x (rw (to_z-of_z w32 _ f) at c.if-x-lt0.false), Fits-nat_abs tt f)
 
-returns : tie.Need-returns
-returns c = let f = c.before.ranges.x in let o = opposite f c.if1.true in rw (read_back f, to_z-of_z w64 _ o.fits) o.is
+returns : tie.Need-returns-then-x-lt0
+returns c = let f = c.before.ranges.x in let o = opposite f c.if-x-lt0.true in rw (read_back f, to_z-of_z w64 _ o.fits) o.is
 
-pub magnitude-spec : {M : Type 1} → statement M
-magnitude-spec =
+pub magnitude_spec : {M : Type 1} → statement M
+magnitude_spec =
     tie.close
-    (tie.spec (λ c. let f = c.before.ranges.x in rw (to_z-of_z w32 _ f) (wider f)) sub-result cast-result-2 cast-result-3 returns (λ c. search needs))
+    (tie.spec (λ c. let f = c.before.ranges.x in rw (to_z-of_z w32 _ f) (wider f)) sub-result cast-result-2 cast-result-3 returns (λ c. search rules))

@@ -1,6 +1,6 @@
 -- `root_row` meets its contract: the row's numbers are read out of the plan's table, and the comparisons decide as the two tests do.
-use Rattle.arithmetic.proofs.Basics.{◌≡◌, refl, sym, ap₂, ◌∙◌, Bool, true, false, cond, ◌-◌, ◌*◌, ◌≤◌, ◌<◌, arith, mul-le-mul, ltb, eqb, length, ℤ, pos, ◌-ℤ◌, needs}
-use Rattle.arithmetic.proofs.Basics.{eq-eqb, ne_eqb, ltb-true, ltb-false, nat_abs}
+use Rattle.arithmetic.proofs.Basics.{◌≡◌, refl, sym, ap₂, ◌∙◌, Bool, true, false, cond, ◌-◌, ◌*◌, ◌≤◌, ◌<◌, arith, mul-le-mul, ltb, eqb, length, ℤ, pos, ◌-ℤ◌, rules}
+use Rattle.arithmetic.proofs.Basics.{eq-eqb, ne_eqb, ltb-true, ltb-false, lt-ltb, le-ltb, nat_abs}
 use Rattle.rules.specs.Plans.{last_row_lem, Row, pass, fail, undecided, decide, root_passes, root_fails}
 use Rattle.plan.specs.Plan.{plan_is}
 use Rattle.tables.specs.Tables.{entry_at, numbers_of_lem, root_most, RootNumbers}
@@ -47,29 +47,29 @@ as_read c = let r = c.requires.0 in let l = c.requires.1 in rw (A-is l r.least r
 
 -- ---- A at or above 0
 
-within-is : (c : tie.After-is-within) → let d = c.before.before.before in let s = d.before in
-    c.is_Within.result ≡ is_within_lem (numbers s) s.args.added s.args.taken s.args.spread d.distance.result d.distance.ensures
-within-is c = rw (← c.before.before.magnitude-at.ensures, ← c.before.is-negative-at.ensures) c.is_Within.ensures
+within-is : (c : tie.After-is_within) → let d = c.before.before.before in let s = d.before in
+    c.is_within.result ≡ is_within_lem (numbers s) s.args.added s.args.taken s.args.spread d.distance-p.result d.distance-p.ensures
+within-is c = rw (← c.before.before.magnitude_at-a.ensures, ← c.before.is_negative_at.ensures) c.is_within.ensures
 
 -- ---- by one comparison, with the number that D's sign chooses
 
-abbrev start : tie.After-chosen → tie.Start
+abbrev start : tie.After-chosen-x → tie.Start
 start c = c.before.before.before.before.before.before.before
 
-chosen_is : (c : tie.After-chosen) → let s = start c in
-    c.chosen.result ≡ cond (ltb s.args.taken s.args.added) (nat_abs (B s)) (nat_abs (A s))
-chosen_is c = rw (← c.before.magnitude-at2.ensures, ← c.before.before.before.before.before.magnitude-at.ensures) c.chosen.ensures
+chosen_is : (c : tie.After-chosen-x) → let s = start c in
+    c.chosen-x.result ≡ cond (ltb s.args.taken s.args.added) (nat_abs (B s)) (nat_abs (A s))
+chosen_is c = rw (← c.before.magnitude_at.ensures, ← c.before.before.before.before.before.magnitude_at-a.ensures) c.chosen-x.ensures
 
-mul-product : tie.Need-overflow-mul-product
+mul-product : tie.Need-overflow_mul-x
 mul-product c =
     let h = c.before in
     let s = start h in
-    let m : h.chosen.result ≤ root_most = chosen-most (ltb s.args.taken s.args.added) (nat_abs (B s)) (nat_abs (A s)) (chosen_is h) (numbers s).B-most (numbers s).A-most in
+    let m : h.chosen-x.result ≤ root_most = chosen-most (ltb s.args.taken s.args.added) (nat_abs (B s)) (nat_abs (A s)) (chosen_is h) (numbers s).B-most (numbers s).A-most in
     omega (arith, mul-le-mul m m)
 
-less-is : (c : tie.After-less) → let h = c.before.before.before in let p = 100000 * h.before.before.before.before.before.before.distance.result in let x = h.chosen.result in
+less-is : (c : tie.After-less) → let h = c.before.before.before in let p = 100000 * h.before.before.before.before.before.before.distance-p.result in let x = h.chosen-x.result in
     c.less.result ≡ ltb (p * p) (x * x * (start h).args.spread)
-less-is c = c.less.ensures ∙ ap₂ ltb c.before.before.product.ensures c.before.product2.ensures
+less-is c = c.less.ensures ∙ ap₂ ltb c.before.before.product.ensures c.before.product-2.ensures
 
 -- where P² is less, and where it is not
 missed-so : (c : tie.After-less) → c.less.result ≡ true → (end : Bool) → let s = start c.before.before.before in
@@ -78,7 +78,7 @@ missed-so c l end e =
     let h = c.before.before.before in
     let s = start h in
     let i = h.before.before.before in
-    missed (numbers s) _ _ _ _ i.before.before.before.distance.ensures (sym (within-is i) ∙ h.before.before.if1.false) (chosen_is h) _ end refl e
+    missed (numbers s) _ _ _ _ i.before.before.before.distance-p.ensures (sym (within-is i) ∙ h.before.before.if-is_within.false) (chosen_is h) _ end refl e
     (ltb-true _ _ (sym (less-is c) ∙ l)) ∙ as_read s
 
 reached-so : (c : tie.After-less) → c.less.result ≡ false → (over : Bool) → let s = start c.before.before.before in
@@ -87,20 +87,20 @@ reached-so c l over o =
     let h = c.before.before.before in
     let s = start h in
     let i = h.before.before.before in
-    reached (numbers s) _ _ _ _ i.before.before.before.distance.ensures (sym (within-is i) ∙ h.before.before.if1.false) (chosen_is h) over o
+    reached (numbers s) _ _ _ _ i.before.before.before.distance-p.ensures (sym (within-is i) ∙ h.before.before.if-is_within.false) (chosen_is h) over o
     (ltb-false _ _ (sym (less-is c) ∙ l)) ∙ as_read s
 
-pub root-row-spec : {M : Type 1} → statement M
-root-row-spec =
+pub root_row_spec : {M : Type 1} → statement M
+root_row_spec =
     tie.close
-    (tie.spec (λ c. search needs) (λ c κs. search needs)
-    (λ c. omega (arith, c.distance.ensures, c.before.requires.0.added-most, c.before.requires.0.taken-most))
+    (tie.spec (λ c. search rules) (λ c κs. search rules)
+    (λ c. omega (arith, c.distance-p.ensures, c.before.requires.0.added-most, c.before.requires.0.taken-most))
     (λ c κs. A-read c.before) (λ c κs. A-read c.before.before)
-    (λ c κs. let m = c.before in record { most = rw m.magnitude-at.ensures (numbers m.before.before).A-most })
-    (λ c. let d = c.before.before.before.before in within (numbers d.before) _ _ _ _ d.distance.ensures (sym (within-is c.before) ∙ c.if1.true) ∙ as_read d.before)
+    (λ c κs. let m = c.before in record { most = rw m.magnitude_at-a.ensures (numbers m.before.before).A-most })
+    (λ c. let d = c.before.before.before.before in within (numbers d.before) _ _ _ _ d.distance-p.ensures (sym (within-is c.before) ∙ c.if-is_within.true) ∙ as_read d.before)
     (λ c κs. B-read c.before.before.before.before.before)
-    (λ c κs. search needs) (λ c κs. search needs) mul-product (λ c κs. search needs) (λ c κs. search needs) (λ c κs. search needs) (λ c. search needs)
-    (λ c. let r = c.before in missed-so r.before.before r.before.if2.true true (eq-eqb _ _ (c.if3.true ∙ r.last_row.ensures)))
-    (λ c. let r = c.before in missed-so r.before.before r.before.if2.true false (ne_eqb _ _ (λ e. c.if3.false (e ∙ sym r.last_row.ensures))))
-    (λ c. reached-so c.before.before c.before.if2.false true c.if4.true)
-    (λ c. reached-so c.before.before c.before.if2.false false c.if4.false))
+    (λ c κs. search rules) (λ c κs. search rules) mul-product (λ c κs. search rules) (λ c κs. search rules) (λ c κs. search rules) (λ c. search rules)
+    (λ c. let r = c.before in missed-so r.before.before r.before.if-less.true true (eq-eqb _ _ (c.if-n-last_row.true ∙ r.last_row.ensures)))
+    (λ c. let r = c.before in missed-so r.before.before r.before.if-less.true false (ne_eqb _ _ (λ e. c.if-n-last_row.false (e ∙ sym r.last_row.ensures))))
+    (λ c. reached-so c.before.before c.before.if-less.false true (lt-ltb _ _ c.if-over.true))
+    (λ c. reached-so c.before.before c.before.if-less.false false (le-ltb _ _ c.if-over.false)))

@@ -29,7 +29,7 @@ returns-2 c =
       c.before.code2.ensures ∙ ap code (sym h ∙ check-known _ _ o n.size.given.1),
     )
 
-mul-end : tie.Need-overflow-mul-end
+mul-end : tie.Need-overflow_mul-end
 mul-end c =
     let n = c.before.before.before in
     let f = evidence-small (accepted n.before.before) n.before.judgement-of.ensures n.numbers.ensures in

@@ -39,7 +39,7 @@ column-requires c κs =
     let i = d.before.before.before.before in
     column-range (opened (gate-before i)) i.before.loop.invariant i.loop-test.true (pollutant-read d)
 
-add-k : tie.Need-overflow-add-k invariant-loop decreases-loop
+add-k : tie.Need-overflow_add-k invariant-loop decreases-loop
 add-k c =
     let i = c.before.before.before.before.before.before.before in
     let t = i.loop-test.true in

@@ -14,7 +14,7 @@ patient : (size moved tries : ℕ) (pause : Bool) → (tries ≡ 0 → ⊥) → 
 patient size moved zero pause h = absurd (h refl)
 patient size moved (suc tries) pause h = rw (sub-one (suc tries)) refl
 
-add-moved-further : tie.Need-overflow-add-moved-further
+add-moved-further : tie.Need-overflow_add-moved-further
 add-moved-further c =
     let r = rw c.before.before.answer.given.1 at c.before.before.before.before.requires.room in
     omega (arith, r, c.before.before.before.before.ranges.size.fits)
