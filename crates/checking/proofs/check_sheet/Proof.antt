@@ -1,27 +1,25 @@
 -- A refused length, or the answer for the records.
-use Rattle.arithmetic.proofs.Basics.{sym, ◌∙◌, needs}
+use Rattle.arithmetic.proofs.Basics.{sym, ◌∙◌, rules}
 use Rattle.rules.specs.Refusals.{check}
 use Rattle.checking.specs.Check.{checked_of}
 use Rattle.checking.proofs.Laws.{whole-ranges, whole-checked}
 use Rattle.checking.proofs.check_sheet.Statement.{statement}
 use Rattle.checking.proofs.check_sheet.Tie as tie
 
-length-refused : tie.Need-returns
+length-refused : tie.Need-returns-then-bad_length
 unfolding checked_of check
-length-refused c = rw (sym c.before.before.bad-length.ensures ∙ c.before.if1.true) c.refused-length.ensures
+length-refused c = rw (sym c.bad_length.ensures ∙ c.if-bad_length.true) c.refused_length.ensures
 
-ranges : tie.Need-check-after-requires
+ranges : tie.Need-check_after-requires
 ranges c κs =
-    let f = c.before in
-    whole-ranges _ c.nothing.ensures _ (sym f.before.bad-length.ensures ∙ f.if1.false)
+    whole-ranges _ c.nothing.ensures _ (sym c.bad_length.ensures ∙ c.if-bad_length.false)
 
-answered : tie.Need-returns-2
+answered : tie.Need-returns
 answered c =
-    let f = c.before.before in
-    c.check-after.ensures ∙ whole-checked _ c.before.nothing.ensures _ (sym f.before.bad-length.ensures ∙ f.if1.false)
+    c.check_after.ensures ∙ whole-checked _ c.nothing.ensures _ (sym c.bad_length.ensures ∙ c.if-bad_length.false)
 
-pub check-sheet-spec : {M : Type 1} → statement M
-check-sheet-spec =
+pub check_sheet_spec : {M : Type 1} → statement M
+check_sheet_spec =
     tie.close
     (tie.spec
-    (λ c κs. search needs) (λ c κs. search needs) length-refused (λ c κs. search needs) ranges answered)
+    (λ c κs. search rules) (λ c κs. search rules) length-refused (λ c κs. search rules) ranges answered)
