@@ -33,6 +33,6 @@ pub fn append(size: usize, buffer: &mut [u8], used: usize, added: &[u8]) -> Outc
     let Checked::Accepted(_) = checked else {
         return checked_outcome(checked);
     };
-    bytes::copy(added, &mut buffer[used..]);
+    buffer[used..used + added.len()].copy_from_slice(added);
     Outcome::Done
 }

@@ -28,7 +28,7 @@ fn put(output: &mut [u8], at: usize, part: &[u8])
     requires { PutRange at (length part.now) (length output.old) }
     ensures { output.new ≡ put_at output.old at part.now }
 {
-    bytes::copy(part, &mut output[at..]);
+    output[at..at + part.len()].copy_from_slice(part);
 }
 
 // The records of a sheet, of each the first 20 bytes and so many zeros. One loop for both ways.

@@ -41,7 +41,7 @@ pub extern "C" fn probe_lines(sheet: &[u8], output: &mut [u8]) -> usize
     let bytes = lines.bytes;
     let n = lines.length;
     if n <= output.len() {
-        bytes::copy(&bytes[..n], output);
+        output[..n].copy_from_slice(&bytes[..n]);
     }
     n
 }

@@ -103,10 +103,10 @@ pub fn report(size: usize, sheet: &[u8], output: &mut [u8]) -> Outcome
     // A number of the program for each size, so that no loop over the bytes is left.
     match size {
         Size::Twenty => {
-            bytes::copy(&values[..Size::TWENTY], output);
+            output[..Size::TWENTY].copy_from_slice(&values[..Size::TWENTY]);
         }
         Size::TwentyEight => {
-            bytes::copy(&values, output);
+            output[..Size::TWENTY_EIGHT].copy_from_slice(&values);
         }
     }
     Outcome::Done
