@@ -1,5 +1,5 @@
 -- A size that there is not, the sheet's own refusal, 23, 24, or the two bytes of the cause.
-use Rattle.arithmetic.proofs.Basics.{◌<◌, arith, sym, ap, ◌∙◌, length, length-set, needs}
+use Rattle.arithmetic.proofs.Basics.{◌<◌, arith, sym, ap, ◌∙◌, length, length-set, rules}
 use Rattle.rules.specs.Sheet.{pending}
 use Rattle.rules.specs.Findings.{entered}
 use Rattle.checking.specs.Check.{Valid}
@@ -12,92 +12,91 @@ use Rattle.entering.proofs.enter.Statement.{statement}
 use Rattle.entering.proofs.enter.Tie as tie
 
 -- the size that was named, and the function's entry
-named : tie.After-check-sheet → tie.After-size
+named : tie.After-check_sheet-checked → tie.In-Known-2
 named c = c.before.before.before
 
-entry : tie.After-size → tie.Start
+entry : tie.In-Known-2 → tie.Start
 entry n = n.before.before.before.before
 
 -- the check accepts the sheet
-said : (c : tie.After-known-told2) → let n = named c.before.before.before in
-    Valid n.size.given.0.0 (entry n).args.sheet.now c.before.checked.given.0.0
+said : (c : tie.In-Accepted) → let n = named c.before.before.before in
+    Valid n.in-Known.size (entry n).args.sheet.now c.in-Accepted.said
 unfolding named entry
-said c = valid _ _ c.before.before.before.check-sheet.ensures c.before.checked.given.1
+said c = valid _ _ c.check_sheet-checked.ensures c.in-Accepted.is
 
 -- where the cause of the engine is asked
-accepted : tie.After-cause-at → tie.After-known-told2
+accepted : tie.After-cause_at-cause → tie.In-Accepted
 accepted c = c.before.before
 
-returns : tie.Need-returns
+returns : tie.Need-returns-in_default
 returns c =
-    let k = c.before in
-    let o = k.before.before.of.ensures in
-    let u = k.enum_told.given.1 in
+    let o = c.of.ensures in
+    let u = c.in_default.is in
     (ap outcome_is c.refused.ensures ∙ sym (enter-unknown _ _ _ _ o u), entered-unknown _ _ _ _ o u)
 
-returns-2 : tie.Need-returns-2
+returns-2 : tie.Need-returns-in_default-checked
 unfolding entered named entry
 returns-2 c =
-    let t = c.before.enum-told2.given.1 in
+    let t = c.in_default-checked.is in
     let d = c.before.before.before in
     let n = named d in
-    enter-known _ _ _ _ n.before.before.of.ensures n.size.given.1
-    (kept (sheet-refused n.size.given.0.0 _ _ _ (refused-sheet _ _ (sym d.check-sheet.ensures ∙ t))) (c.checked-outcome.ensures ∙ ap check_is t) _ _)
+    enter-known _ _ _ _ n.of.ensures n.in-Known.is
+    (kept (sheet-refused n.in-Known.size _ _ _ (refused-sheet _ _ (sym c.check_sheet-checked.ensures ∙ t))) (c.checked_outcome.ensures ∙ ap check_is t) _ _)
 
-returns-3 : tie.Need-returns-3
+returns-3 : tie.Need-returns-then-cause-ne-PENDING
 unfolding entered named entry accepted
 returns-3 c =
     let a = c.before.before in
     let k = accepted a in
     let n = named k.before.before.before in
-    enter-known _ _ _ _ n.before.before.of.ensures n.size.given.1
-    (kept (not-pending n.size.given.0.0 _ _ _ (said k) a.cause-at.ensures c.before.if1.true) (ap outcome_is c.refused2.ensures) _ _)
+    enter-known _ _ _ _ n.of.ensures n.in-Known.is
+    (kept (not-pending n.in-Known.size _ _ _ (said k) c.cause_at-cause.ensures c.if-cause-ne-PENDING.true) (ap outcome_is c.refused-then-cause-ne-PENDING.ensures) _ _)
 
-returns-4 : tie.Need-returns-4
+returns-4 : tie.Need-returns-then-finding
 unfolding entered named entry accepted
 returns-4 c =
     let p = c.before.before in
     let k = accepted p.before in
     let n = named k.before.before.before in
-    enter-known _ _ _ _ n.before.before.of.ensures n.size.given.1
-    (kept (bad-finding n.size.given.0.0 _ _ _ (said k) p.before.cause-at.ensures p.if1.false c.before.if2.true) (ap outcome_is c.refused3.ensures) _ _)
+    enter-known _ _ _ _ n.of.ensures n.in-Known.is
+    (kept (bad-finding n.in-Known.size _ _ _ (said k) c.cause_at-cause.ensures c.if-cause-ne-PENDING.false c.if-finding.true) (ap outcome_is c.refused-then-finding.ensures) _ _)
 
 -- the place of the cause is in the sheet, and a small number
 place : (c : tie.After-bytes) → let k = accepted c.before.before.before in let a = (entry (named k.before.before.before)).args in
-    Placed c.bytes.result k.before.checked.given.0.0.head a.engine (length a.sheet.now)
+    Placed c.bytes.result k.in-Accepted.said.head a.engine (length a.sheet.now)
 unfolding named entry accepted
 place c =
     let p = c.before.before in
     let k = accepted p.before in
-    placed (named k.before.before.before).size.given.0.0 _ _ (said k) (sym p.before.cause-at.ensures ∙ p.if1.false) c.bytes.ensures
+    placed (named k.before.before.before).in-Known.size _ _ (said k) (sym c.cause_at-cause.ensures ∙ c.if-cause-ne-PENDING.false) c.bytes.ensures
 
 -- the finding has two bytes
 two_bytes : (c : tie.After-bytes) → (entry (named (accepted c.before.before.before).before.before.before)).args.finding < pending
 unfolding named entry accepted
-two_bytes c = below-pending _ c.before.if2.false
+two_bytes c = below-pending _ c.if-finding.false
 
-returns-5 : tie.Need-returns-5
+returns-5 : tie.Need-returns
 unfolding entered named entry accepted
 returns-5 c =
     let s = c.before in
     let p = s.before.before in
     let k = accepted p.before in
     let n = named k.before.before.before in
-    enter-known _ _ _ _ n.before.before.of.ensures n.size.given.1
-    (rw s.bytes.ensures (wrote n.size.given.0.0 _ _ _ (said k) p.before.cause-at.ensures p.if1.false s.before.if2.false))
+    enter-known _ _ _ _ n.of.ensures n.in-Known.is
+    (rw c.bytes.ensures (wrote n.in-Known.size _ _ _ (said k) c.cause_at-cause.ensures c.if-cause-ne-PENDING.false c.if-finding.false))
 
 pub enter_spec : {M : Type 1} → statement M
 unfolding entered named entry accepted
 enter_spec =
     tie.close
     (tie.spec
-    (λ c κs. search needs) (λ c. search needs) (λ c. search needs) (λ c κs. search needs) returns
-    (λ c κs. search needs) (λ c. search needs) (λ c. search needs) (λ c κs. search needs) (λ c. search needs) returns-2
-    (λ c κs. said c.before) (λ c κs. search needs) (λ c. search needs) returns-3
-    (λ c κs. search needs) (λ c. search needs) returns-4
-    (λ c κs. search needs) (λ c. search needs)
+    (λ c κs. search rules) (λ c. search rules) (λ c. search rules) (λ c κs. search rules) returns
+    (λ c κs. search rules) (λ c. search rules) (λ c. search rules) (λ c κs. search rules) (λ c. search rules) returns-2
+    (λ c κs. said c.before) (λ c κs. search rules) (λ c. search rules) returns-3
+    (λ c κs. search rules) (λ c. search rules) returns-4
+    (λ c κs. search rules) (λ c. search rules)
     (λ c. omega (arith, (place c.before).counted)) (λ c. omega (arith, (place c.before).few))
-    (λ c. omega (arith, (place c.before).near)) (λ c. omega (arith, (place c.before).near)) (λ c. search needs)
+    (λ c. omega (arith, (place c.before).near)) (λ c. omega (arith, (place c.before).near)) (λ c. search rules)
     (λ c. omega (arith, (place c.before).inside)) (λ c. omega (arith, two_bytes c.before)) (λ c. omega (arith, (place c.before).near))
     (λ c. rw length-set (omega (arith, (place c.before).inside)))
-    (λ c. search needs) returns-5)
+    (λ c. search rules) returns-5)
