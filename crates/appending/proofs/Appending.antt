@@ -66,15 +66,10 @@ module _ (z : Size) (b : List ℕ) (u : ℕ) (r : List ℕ) where
   -- ---- the buffer
 
   -- the record is copied into the part from u on
-  pub wrote : append w b u r ≡ accepted → length r ≡ (size w) → {y : List ℕ}
-      → y ≡ take (length r) r ++ drop (length r) (take (length b - u) (drop u b))
-      → (accepted ≡ append w b u r) × (take u b ++ (y ++ drop (length b - u) (drop u b)) ≡ appended w b u r)
+  pub wrote : append w b u r ≡ accepted → length r ≡ (size w) → u + length r ≤ length b → {y : List ℕ} → y ≡ r
+      → (accepted ≡ append w b u r) × (take u b ++ (y ++ drop (u + length r - u) (drop u b)) ≡ appended w b u r)
   unfolding appended
-  wrote e l p =
-      let d : length (drop u b) ≤ length b - u = le_of_eq (length-drop u b) in (
-        sym e,
-        rw (e, p, take_all (length b - u) (drop u b) d, drop_of_length-le (drop u b) d, append-nil, take-length r, l, drop-drop (size w) u b) refl,
-      )
+  wrote e l h p = let n : u + length r - u ≡ size w = omega (arith, l) in (sym e, rw (e, p, n, drop-drop (size w) u b) refl)
 
 -- ---- by the size that a caller names
 

@@ -22,11 +22,8 @@ written-more M held o p at h e =
     sym (drop-drop (length p) (length M) (M ++ rest)) ∙ ap (drop (length p)) (drop_at M rest (length M) refl) ∙ drop-drop (length p) (length M) held ∙ ap (λ (n : ℕ). drop n held) (sym (length-append M p)) in
     rw (h, ← e, take_at M rest (length M) refl, d) (sym (append_assoc M p (drop (length (M ++ p)) held)))
 
-pub put-wrote : (o p : List ℕ) (at : ℕ) → {y : List ℕ} → y ≡ take (length p) p ++ drop (length p) (take (length o - at) (drop at o))
-    → take at o ++ (y ++ drop (length o - at) (drop at o)) ≡ put_at o at p
-put-wrote o p at q =
-    let d : length (drop at o) ≤ length o - at = le_of_eq (length-drop at o) in
-    rw (q, take_all (length o - at) (drop at o) d, drop_of_length-le (drop at o) d, append-nil, take-length p, drop-drop (length p) at o) refl
+pub put-wrote : (o p : List ℕ) (at : ℕ) → {y : List ℕ} → y ≡ p → take at o ++ (y ++ drop (at + length p - at) (drop at o)) ≡ put_at o at p
+put-wrote o p at q = let n : at + length p - at ≡ length p = omega arith in rw (q, n, drop-drop (length p) at o) refl
 
 length-put : (o p : List ℕ) (at : ℕ) → at + length p ≤ length o → length (put_at o at p) ≡ length o
 length-put o p at h =

@@ -10,7 +10,7 @@ use Rattle.tally.specs.Judgements.{numbers_of_lem}
 
 -- "Line 1: verdict word .., engine, ground"
 abbrev pub first_line_lem : Numbers → List ℕ
-first_line_lem n = line (verdict_word n.verdict ∷ decimal n.engine ∷ decimal n.ground ∷ [])
+first_line_lem n = line (verdict_word n.verdict ∷ decimal n.engine ∷ decimal n.grounds ∷ [])
 
 -- "a line for each declared pollutant"
 abbrev pub decision_line : (p : ℕ) → Decision → List ℕ

@@ -34,14 +34,14 @@ fn first_line(numbers: Numbers) -> Lines
     let Numbers {
         verdict,
         engine,
-        ground,
+        grounds,
     } = numbers;
     match verdict {
-        0 => line_of(b"another", engine, ground),
-        1 => line_of(b"pass", engine, ground),
-        2 => line_of(b"fail", engine, ground),
-        3 => line_of(b"referred", engine, ground),
-        _ => line_of(b"held", engine, ground),
+        0 => line_of(b"another", engine, grounds),
+        1 => line_of(b"pass", engine, grounds),
+        2 => line_of(b"fail", engine, grounds),
+        3 => line_of(b"referred", engine, grounds),
+        _ => line_of(b"held", engine, grounds),
     }
 }
 

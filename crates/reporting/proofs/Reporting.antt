@@ -71,15 +71,15 @@ module _ (z : Size) (b o : List ℕ) where
 
     -- of the report with six pairs, as many bytes as the size has
     pub wrote : {g : Judgement} → j ≡ judged.Judgement g → {v : List ℕ} (part : List ℕ) → v ≡ report_bytes more_pollutants (judgement_is g)
-        → part ≡ take (size w) v → length part ≡ size w → {l : List ℕ} → l ≡ take (length part) part ++ drop (length part) o
+        → part ≡ take (size w) v → {l : List ℕ} → l ≡ part ++ drop (size w) o
         → (accepted ≡ report w b o) × (l ≡ reported w squarings b o)
     unfolding reported
-    wrote {g} p part q f n r =
+    wrote {g} p part q f r =
         let s : report w b o ≡ accepted = answer-is ∙ ap judged_check p in
         let c : check w b ≡ accepted = sym (judge-check w squarings b) ∙ sym (check-of w (judge w squarings b)) ∙ sym (ap check_in e) ∙ ap (λ (x : Judged). check_in (judged_is x)) p in
         let six : judgement_is g ≡ six_pairs w (judge w squarings b) = rw p at e in
         let is : part ≡ report_bytes w (judge w squarings b) = f ∙ ap (take (size w)) (q ∙ ap (report_bytes more_pollutants) six) ∙ report-six z b c in
-        (sym s, rw (r, take-length part, n, s, is) refl)
+        (sym s, rw (r, s, is) refl)
 
 -- ---- by the size that a caller names
 

@@ -25,7 +25,7 @@ fn values(judgement: Judgement) -> [u8; 28]
     let Numbers {
         verdict,
         engine,
-        ground,
+        grounds,
     } = verdict.numbers();
     let Decisions {
         co,
@@ -44,7 +44,7 @@ fn values(judgement: Judgement) -> [u8; 28]
     [
         16,
         verdict,
-        ground,
+        grounds,
         engine,
         co.decision,
         co.engine,

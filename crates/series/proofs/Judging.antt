@@ -84,10 +84,10 @@ module _ {z : Size} {b : List ℕ} {s : Summary} (v : Valid z b s) {j : Judgemen
         let h = (width-range z).1 in
         omega (arith, evidence-fits, (sound w b v.accepts).longest, h, mul-le-mul h h)
 
-    pub evidence-part : eqb n.ground 1 || eqb n.ground 2 ≡ true → take (size w * (s.head + n.engine)) b ≡ evidence w squarings b
+    pub evidence-part : eqb n.grounds 1 || eqb n.grounds 2 ≡ true → take (size w * (s.head + n.engine)) b ≡ evidence w squarings b
     evidence-part t = rw (← evidence-by, (laws.accepted-so v).starts, ← ne, t) refl
 
-    pub evidence-whole : eqb n.ground 1 || eqb n.ground 2 ≡ false → b ≡ evidence w squarings b
+    pub evidence-whole : eqb n.grounds 1 || eqb n.grounds 2 ≡ false → b ≡ evidence w squarings b
     evidence-whole t = rw (← evidence-by, ← ne, t) refl
 
 -- ---- by the size that a caller names

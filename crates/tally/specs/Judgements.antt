@@ -14,16 +14,16 @@ use Rattle.tally.specs.declared.Judgement.{Judgement}
 -- "verdict (0 another, 1 pass, 2 fail, 3 referred), engine .., ground (0 none, 1 a row, 2 equal cause, 3 stopped, 4 referred)"; 02, F-5: "the
 -- verdict is 4, printed `held`, at that row with ground 5"
 abbrev pub numbers_of_lem : Verdict → Numbers
-numbers_of_lem (Another n) = record { verdict = 0; engine = n; ground = 0 }
-numbers_of_lem (Pass n) = record { verdict = 1; engine = n; ground = 1 }
-numbers_of_lem (FailByRow n) = record { verdict = 2; engine = n; ground = 1 }
-numbers_of_lem (FailByCause n) = record { verdict = 2; engine = n; ground = 2 }
-numbers_of_lem (FailByStop n) = record { verdict = 2; engine = n; ground = 3 }
-numbers_of_lem (Referred n) = record { verdict = 3; engine = n; ground = 4 }
-numbers_of_lem (Held n) = record { verdict = 4; engine = n; ground = 5 }
+numbers_of_lem (Another n) = record { verdict = 0; engine = n; grounds = 0 }
+numbers_of_lem (Pass n) = record { verdict = 1; engine = n; grounds = 1 }
+numbers_of_lem (FailByRow n) = record { verdict = 2; engine = n; grounds = 1 }
+numbers_of_lem (FailByCause n) = record { verdict = 2; engine = n; grounds = 2 }
+numbers_of_lem (FailByStop n) = record { verdict = 2; engine = n; grounds = 3 }
+numbers_of_lem (Referred n) = record { verdict = 3; engine = n; grounds = 4 }
+numbers_of_lem (Held n) = record { verdict = 4; engine = n; grounds = 5 }
 
 abbrev pub numbers_answer : Numbers → List rules.Pair → rules.Answer
-numbers_answer n pairs = rules.judgement n.verdict n.engine n.ground pairs
+numbers_answer n pairs = rules.judgement n.verdict n.engine n.grounds pairs
 
 abbrev pub verdict_is : Verdict → List rules.Pair → rules.Answer
 verdict_is v pairs = numbers_answer (numbers_of_lem v) pairs

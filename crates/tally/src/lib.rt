@@ -34,16 +34,16 @@ pub enum Verdict {
 pub struct Numbers {
     pub verdict: u8,
     pub engine: u8,
-    pub ground: u8,
+    pub grounds: u8,
 }
 
-fn numbered(verdict: u8, engine: u8, ground: u8) -> Numbers
-    ensures { result ≡ record { verdict = verdict; engine = engine; ground = ground } }
+fn numbered(verdict: u8, engine: u8, grounds: u8) -> Numbers
+    ensures { result ≡ record { verdict = verdict; engine = engine; grounds = grounds } }
 {
     Numbers {
         verdict,
         engine,
-        ground,
+        grounds,
     }
 }
 

@@ -1,5 +1,5 @@
 -- A record at a time: what is written so far, and behind it what the output held.
-use Rattle.arithmetic.proofs.Basics.{ℕ, ◌+◌, ◌-◌, ◌/◌, ◌≤◌, ◌<◌, arith, sym, length, take, replicate, length-take-le, needs}
+use Rattle.arithmetic.proofs.Basics.{ℕ, ◌+◌, ◌-◌, ◌/◌, ◌≤◌, ◌<◌, arith, sym, length, take, replicate, length-take-le, rules}
 use Rattle.rules.specs.Sheet.{size}
 use Rattle.accepted.proofs.Sheets.{whole-inside}
 use Rattle.layout.specs.Sizes.{width_is}
@@ -7,63 +7,53 @@ use Rattle.converting.proofs.Steps.{Reached, begin, done, room, long, part-fits,
 use Rattle.converting.proofs.recast.Statement.{statement}
 use Rattle.converting.proofs.recast.Tie as tie
 
-abbrev invariant-loop : tie.invariant-loop
+abbrev invariant-loop : tie.invariant-loop-k
 invariant-loop size added sheet output₀ zeros n at₀ k₀ output at k = Reached (width_is size) added sheet output₀ k at output
 
-abbrev decreases-loop : tie.decreases-loop
+abbrev decreases-loop : tie.decreases-loop-k
 decreases-loop size added sheet output₀ zeros n at₀ k₀ output at k = n - k
 
-entry : tie.In-loop invariant-loop decreases-loop → tie.Start invariant-loop decreases-loop
-entry c = c.before.before.before.before.before
-
 -- the record is one of those that the sheet has
-inside : (c : tie.In-loop invariant-loop decreases-loop) → let a = (entry c).args in c.before.loop.k < length a.sheet.now / size (width_is a.size)
-unfolding entry
-inside c = rw c.before.before.records-in.ensures at c.loop-test.true
+inside : (c : tie.In-loop-k invariant-loop decreases-loop) → let a = c.args in c.loop-k.k < length a.sheet.now / size (width_is a.size)
+inside c = rw c.records_in-n.ensures at c.loop-k-test.true
 
 -- there is room for it, and it has the bytes that are carried over
-space : (c : tie.After-record-at invariant-loop decreases-loop) → let i = c.before in i.before.loop.at + 20 + (entry i).args.added ≤ length i.before.loop.output
-unfolding entry
-space c = let i = c.before in room _ _ _ (entry i).requires i.before.loop.invariant (inside i)
+space : (c : tie.After-record_at-r invariant-loop decreases-loop) → let i = c.before in c.loop-k.at + 20 + c.args.added ≤ length c.loop-k.output
+space c = let i = c.before in room _ _ _ c.requires c.loop-k.invariant (inside i)
 
-record-long : (c : tie.After-record-at invariant-loop decreases-loop) → 20 ≤ length c.record-at.result.now
-unfolding entry
-record-long c = let i = c.before in long _ _ _ (entry i).requires i.before.loop.invariant (inside i) c.record-at.ensures
+record-long : (c : tie.After-record_at-r invariant-loop decreases-loop) → 20 ≤ length c.record_at-r.result.now
+record-long c = let i = c.before in long _ _ _ c.requires c.loop-k.invariant (inside i) c.record_at-r.ensures
 
-fits-first : (c : tie.After-record-at invariant-loop decreases-loop) → let i = c.before in i.before.loop.at + length (take 20 c.record-at.result.now) ≤ length i.before.loop.output
-unfolding entry
-fits-first c = let i = c.before in part-fits _ _ _ (entry i).requires i.before.loop.invariant (inside i) c.record-at.ensures
+fits-first : (c : tie.After-record_at-r invariant-loop decreases-loop) → c.loop-k.at + length (take 20 c.record_at-r.result.now) ≤ length c.loop-k.output
+fits-first c = let i = c.before in part-fits _ _ _ c.requires c.loop-k.invariant (inside i) c.record_at-r.ensures
 
-fits-zeros : (c : tie.After-put invariant-loop decreases-loop) → let i = c.before.before.before.before in
-    i.before.loop.at + 20 + length (take {A = ℕ} (entry i).args.added (replicate 8 0)) ≤ length c.put.new.0
-unfolding entry
+fits-zeros : (c : tie.After-put invariant-loop decreases-loop) → let i = c.before.before.before in
+    c.loop-k.at + 20 + length (take {A = ℕ} c.args.added (replicate 8 0)) ≤ length c.put.new.output
 fits-zeros c =
-    let i = c.before.before.before.before in
-    zeros-fit _ _ _ (entry i).requires i.before.loop.invariant (inside i) c.before.before.before.record-at.ensures c.put.ensures
+    let i = c.before.before.before in
+    zeros-fit _ _ _ c.requires c.loop-k.invariant (inside i) c.record_at-r.ensures c.put.ensures
 
-loop-again : tie.Need-loop-preserved invariant-loop decreases-loop
-unfolding entry
+loop-again : tie.Need-loop-k-preserved invariant-loop decreases-loop
 loop-again c =
-    let i = c.before.before.before.before.before.before.before.before.before.before.before in
-    next _ _ _ (entry i).requires i.before.loop.invariant (inside i) c.before.before.before.before.before.before.before.before.before.before.record-at.ensures c.before.before.before.before.before.before.before.put.ensures c.before.before.put2.ensures
+    let i = c.before.before.before.before.before.before.before.before.before.before in
+    next _ _ _ c.requires c.loop-k.invariant (inside i) c.record_at-r.ensures c.put.ensures c.put-in-loop-k.ensures
 
-pub recast-spec : {M : Type 1} → statement M
-unfolding entry
-recast-spec =
+pub recast_spec : {M : Type 1} → statement M
+recast_spec =
     tie.close
     (tie.spec
-    invariant-loop decreases-loop (λ c κs. search needs) (λ c. begin _ _ _ _)
+    invariant-loop decreases-loop (λ c κs. search rules) (λ c. begin _ _ _ _)
     (λ c κs. record { inside = whole-inside _ _ _ (inside c) })
-    (λ c. let d = c.before.before in sym (length-take-le 20 d.record-at.result.now (record-long d)))
-    (λ c κs. record { fits = fits-first c.before.before })
-    (λ c. let s = space c.before.before.before.before.before.before in search needs)
-    (λ c. (entry c.before.before.before.before.before.before.before).pre.few)
-    (λ c. sym (length-take-le _ _ (entry c.before.before.before.before.before.before.before.before).pre.few))
+    (λ c. sym (length-take-le 20 c.record_at-r.result.now (record-long c.before)))
+    (λ c κs. record { fits = fits-first c.before })
+    (λ c. let s = space c.before.before.before.before.before in search rules)
+    (λ c. c.requires.few)
+    (λ c. sym (length-take-le _ _ c.requires.few))
     (λ c κs. record { fits = fits-zeros c.before.before.before.before })
-    (λ c. let s = space c.before.before.before.before.before.before.before.before.before.before in search needs)
-    (λ c. let s = space c.before.before.before.before.before.before.before.before.before.before in search needs)
-    (λ c. let t = c.before.before.before.before.before.before.before.before.before.before.before.loop-test.true in search needs)
-    (λ c. let t = c.before.before.before.before.before.before.before.before.before.before.before.loop-test.true in omega arith)
+    (λ c. let s = space c.before.before.before.before.before.before.before.before.before in search rules)
+    (λ c. let s = space c.before.before.before.before.before.before.before.before.before in search rules)
+    (λ c. let t = c.loop-k-test.true in search rules)
+    (λ c. let t = c.loop-k-test.true in omega arith)
     loop-again
-    (λ c. c.before.loop.invariant.same_length)
-    (λ c. done _ _ _ c.before.before.before.before.before.requires c.before.loop.invariant (rw c.before.before.records-in.ensures at c.loop-test.false)))
+    (λ c. c.loop-k.invariant.same_length)
+    (λ c. done _ _ _ c.requires c.loop-k.invariant (rw c.records_in-n.ensures at c.loop-k-test.false)))

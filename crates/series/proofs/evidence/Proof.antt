@@ -32,19 +32,19 @@ mul-end c =
     let f = evidence-small (accepted n.before.before) c.judgement_of-judgement.ensures c.numbers-engine.ensures in
     rw c.bytes.ensures (omega (arith, f))
 
-slice-aggregate-result-3 : tie.Need-slice_bounds-result-end-then-ground
+slice-aggregate-result-3 : tie.Need-slice_bounds-result-end-then-grounds
 slice-aggregate-result-3 c =
     let n = c.before.before.before in
     rw c.bytes.ensures
     (sym (length-take-le _ _ (evidence-fits (accepted n.before.before) c.judgement_of-judgement.ensures c.numbers-engine.ensures)))
 
-returns-3 : tie.Need-returns-then-ground
+returns-3 : tie.Need-returns-then-grounds
 returns-3 c =
     let i = c.before.before in
     let n = i.before in
     let v = accepted n.before.before in
     (
-      rw c.bytes.ensures (evidence-part v c.judgement_of-judgement.ensures c.numbers-engine.ensures c.if-ground.true)
+      rw c.bytes.ensures (evidence-part v c.judgement_of-judgement.ensures c.numbers-engine.ensures c.if-grounds.true)
           ∙ evidence-known _ _ c.of.ensures c.in-Known.is,
       ap code (sym v.accepts ∙ check-known _ _ c.of.ensures c.in-Known.is),
     )
@@ -54,7 +54,7 @@ returns-4 c =
     let n = c.before in
     let v = accepted n.before.before in
     (
-      evidence-whole v c.judgement_of-judgement.ensures c.numbers-engine.ensures c.if-ground.false ∙ evidence-known _ _ c.of.ensures c.in-Known.is,
+      evidence-whole v c.judgement_of-judgement.ensures c.numbers-engine.ensures c.if-grounds.false ∙ evidence-known _ _ c.of.ensures c.in-Known.is,
       ap code (sym v.accepts ∙ check-known _ _ c.of.ensures c.in-Known.is),
     )
 
