@@ -131,7 +131,7 @@ pub fn next_at(size: usize, bytes: &[u8], at: usize) -> usize
 }
 
 // A sheet under reading.
-#[derive(Drop)]
+#[derive(Clone, Copy)]
 pub struct SheetReader<'a> {
     pub size: usize,
     pub bytes: &'a [u8],
@@ -174,7 +174,7 @@ impl<'a> SheetReader<'a> {
 }
 
 // One turn of a walk over a sheet: what stands at a number, the number after it, and how many whole records are left from it on.
-#[derive(Drop)]
+#[derive(Clone, Copy)]
 pub struct Turn {
     pub step: Step,
     pub next: usize,

@@ -1,11 +1,10 @@
--- `with_sentence` meets its contract: line n of its text is the sentence of number n, empty where there is none, and behind them there is none.
+-- Line n of the text is the sentence of number n, empty where there is none, and behind them there is none.
 use Rattle.arithmetic.proofs.Basics.{ℕ, zero, suc, ◌+◌, ◌≤◌, ◌<◌, add-zero, arith, ◌≡◌, refl, sym, ap, ◌∙◌, Bool, true, not, cond, List, [], ◌∷◌, ◌++◌, length, get_or, leb, eqb}
-use Rattle.arithmetic.proofs.Basics.{ltb, leb-true, ltb-true, ltb-false, ne_eqb, not-true, ◌&&◌, and-true, by-test, needs}
+use Rattle.arithmetic.proofs.Basics.{ltb, leb-true, ltb-true, ltb-false, ne_eqb, not-true, ◌&&◌, and-true, by-test}
 use Rattle.rules.specs.Tools.{all}
 use Rattle.lines.specs.Writing.{with_bytes}
 use Rattle.explaining.specs.Sentences.{Sentence, ◌means◌, sentences, meaning, sentence, line_of}
-use Rattle.explaining.proofs.with_sentence.Statement.{statement}
-use Rattle.explaining.proofs.with_sentence.Tie as tie
+use Rattle.explaining.proofs.with_sentence.Goals as goal
 
 -- ---- the table by place
 
@@ -89,8 +88,5 @@ short-at most (l ∷ ls) h (suc n) = short-at most ls (and-true (leb (length l) 
 short : (n : ℕ) → length (sentence n) ≤ 100
 short n = rw (is-placed n) (short-at 100 placed refl n)
 
-returns : tie.Need-returns
-returns c = record { adds = c.with-line.ensures ∙ ap (with_bytes _) (line_at placed refl _ ∙ sym (is-placed _)); few = short _ }
-
-pub with-sentence-spec : {M : Type 1} → statement M
-with-sentence-spec = tie.close (tie.spec (λ c. search needs) (λ c κs. search needs) returns)
+pub returns : goal.returns
+returns c = record { adds = c.with_line.ensures ∙ ap (with_bytes _) (line_at placed refl _ ∙ sym (is-placed _)); few = short _ }

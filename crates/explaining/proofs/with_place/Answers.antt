@@ -1,0 +1,17 @@
+-- The record's number, and its name by what stands there.
+use Rattle.arithmetic.proofs.Basics.{eq-eqb, ne_eqb}
+use Rattle.lines.proofs.Written.{add_none, add-word, add-then}
+use Rattle.explaining.specs.Explanation.{place}
+use Rattle.explaining.proofs.with_place.Goals as goal
+
+pub returns-then-refusal-eq-LENGTH : goal.returns-then-refusal-eq-LENGTH
+unfolding place
+returns-then-refusal-eq-LENGTH c = rw (eq-eqb _ 1 c.if-refusal-eq-LENGTH.true) (add_none _ 42)
+
+pub returns : goal.returns
+unfolding place
+returns c =
+    let named = rw (c.engines_through-engine.ensures, c.turn_at-turn.ensures) at c.with_name.ensures in
+    rw (ne_eqb _ 1 c.if-refusal-eq-LENGTH.false)
+    (add-then (add-word c.with_word.ensures)
+    (add-then c.with_number.ensures (add-then (add-word c.with_word-lines.ensures) (add-then named (add-word c.with_word-2.ensures)))))
