@@ -1,6 +1,6 @@
 // The entries for programs in C, answering number * 256 + record, 0 on success: append and report for the bench's control program, of
-// 20-byte records and by the record size, the converter between the sizes, the finding that is entered for a vehicle, and declared for type
-// approval.
+// 20-byte records and by the record size, the converter between the sizes, the finding that is entered for a vehicle, what is sure of
+// measurements known within a range, and declared for type approval.
 #![tactic(auto)]
 
 ghost use Rattle.std.specs.Prelude.{◌≡◌};
@@ -10,11 +10,13 @@ ghost use Rattle.rules.specs.Operations as rules;
 ghost use Rattle.rules.specs.Sizes.{append_sized, appended_sized, report_sized, reported_sized};
 ghost use Rattle.rules.specs.Converter.{convert, converted, added_pollutants};
 ghost use Rattle.rules.specs.Findings.{enter_sized, entered_sized};
+ghost use Rattle.rules.specs.Ranges as ranges;
 ghost use Rattle.rules.specs.DeclaredValue as approval;
 ghost use Rattle.outcomes.specs.Outcomes.{outcome_is};
 
 use checking::Refusal;
 use declared_value::{Approval, approve};
+use judging_ranges::{Range, judge_range};
 use layout::Size;
 use outcomes::Outcome;
 
@@ -90,6 +92,39 @@ pub extern "C" fn conformity_finding(
     ensures sheet_after { sheet.new ≡ entered_sized size sheet.old engine finding }
 {
     code(entering::enter(size, sheet, engine, finding))
+}
+
+// uint32_t conformity_range(size_t size, const uint8_t *low, size_t low_length, const uint8_t *high, size_t high_length, uint32_t *answer, uint32_t *engine)
+#[unsafe(no_mangle)]
+pub extern "C" fn conformity_range(
+    size: usize,
+    low: &[u8],
+    high: &[u8],
+    answer: &mut u32,
+    engine: &mut u32,
+) -> u32
+    ensures value { result ≡ rules.code (ranges.outcome (ranges.range_sized size squarings low.now high.now)) }
+    ensures answer_after { answer.new ≡ ranges.answer_after_lem (ranges.range_sized size squarings low.now high.now) answer.old }
+    ensures engine_after { engine.new ≡ ranges.engine_after_lem (ranges.range_sized size squarings low.now high.now) engine.old }
+{
+    match judge_range(size, low, high) {
+        Range::PassesSurely(n) => {
+            *answer = 1;
+            *engine = n as u32;
+            0
+        }
+        Range::FailsSurely(n) => {
+            *answer = 2;
+            *engine = n as u32;
+            0
+        }
+        Range::Depends => {
+            *answer = 0;
+            *engine = 0;
+            0
+        }
+        Range::Refused(refusal) => refusal.code(),
+    }
 }
 
 // uint32_t conformity_declared(uint32_t declared, const uint32_t *tests, size_t count, uint32_t *sum, uint32_t *divisor)

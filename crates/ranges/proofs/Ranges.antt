@@ -15,7 +15,7 @@ use Rattle.rules.specs.Ranges.{DecidedAt, EachPasses, EachFails, Latest}
 use Rattle.accepted.proofs.Faultless.{sound}
 use Rattle.answers.proofs.Answers.{accepted-judgement}
 use Rattle.demands.proofs.Alike.{Same, records-same, of-kind, plan-same}
-use Rattle.demands.proofs.Demand3.{lower-passes-run-in, lower-fails-run-in}
+use Rattle.demands.proofs.Lowering.{sheet-passes, sheet-fails}
 use Rattle.ranges.proofs.Tests.{alike-swap}
 use Rattle.ranges.proofs.Given.{Given, OneOrThree, not-in-service, given}
 use Rattle.ranges.proofs.Accepting.{between-checked}
@@ -132,12 +132,12 @@ module _ (w q : ℕ) (low high : List ℕ) (c : range_check w low high ≡ accep
     -- the high sheet's pass is its own, and the low sheet's fail
     below-passes : (n : ℕ) → PassesAt w q high n → PassesBy w q S n
     below-passes n =
-        lower-passes-run-in w q high S b.alike_high b.not_above plan-high (each-accepted high high-between) (each-accepted S b) n b.zero_hours
+        sheet-passes w q high S b.alike_high b.not_above b.zero_hours plan-high (each-accepted high high-between) (each-accepted S b) n
 
     above-fails : (n : ℕ) → FailsAt w q low n → FailsBy w q S n
     above-fails n =
-        lower-fails-run-in w q S low b.alike_low b.not_below (rw (plan-same below-high) at plan-high) (each-accepted S b) (each-accepted low low-between) n
-        zero-hours-low
+        sheet-fails w q S low b.alike_low b.not_below zero-hours-low (rw (plan-same below-high) at plan-high) (each-accepted S b)
+        (each-accepted low low-between) n
 
   -- the answer is read off the two
   range-is : range w q low high ≡ passes_or (judge w q high) (fails_or (judge w q low) depends)

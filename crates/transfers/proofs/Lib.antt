@@ -1,3 +1,3 @@
-pub mod Answers
+pub mod Bytes
 pub mod Progress
 pub mod Whole

@@ -1,12 +1,19 @@
-// Reading and writing over a descriptor, so that a call which fails is never taken for the end.
-// The kit's `io` counts a call that fails or that a signal interrupts as the end: here such a call is tried again, or the whole fails.
+// Reading and writing by calls of std's `Read` and `Write`, so that a call which fails is never taken for the end: one that may be made again is, and else the whole fails.
 #![tactic(auto)]
 
-ghost use Rattle.std.specs.Prelude.{◌≡◌, length};
+ghost use Rattle.std.specs.Prelude.{◌≡◌, ◌<◌, ◌^◌, length, take, IfOk};
 ghost use Rattle.transfers.specs.Transfers.{answer, further, next, Place, Room, Over};
+ghost use Rattle.transfers.specs.Calls.{number, answered};
+ghost use Rattle.transfers.specs.Bytes.{Gives, Takes, IsTold, HasRead, HasWritten, TellsWhy};
 
-use libc::types::timespec;
-use libc::{EAGAIN, EINTR};
+use std::io::{ErrorKind, Read, Write};
+use std::time::{Clock, Duration};
+use std::{io, thread};
+
+// Linux's numbers of a call that a signal interrupts, and of one that would have to wait.
+const EINTR: i32 = 4;
+
+const EAGAIN: i32 = 11;
 
 // What a call of `read` or `write` answered.
 #[derive(Drop)]
@@ -55,6 +62,35 @@ fn answer_of(got: isize, error: i32) -> Answer
     Answer::Broken
 }
 
+// errno of a call that failed. An error that is not the system's has a kind and no number.
+fn number_of(error: &io::Error) -> i32
+    ensures { result ≡ number error.now }
+{
+    if let Some(code) = error.raw_os_error() {
+        return code;
+    }
+    match error.kind() {
+        ErrorKind::Interrupted => EINTR,
+        ErrorKind::WouldBlock => EAGAIN,
+        _ => 0,
+    }
+}
+
+// What a call answered, from what it gave back. Why it failed, if it did, is kept in `error`.
+fn answer_to(call: io::Result<usize>, error: &mut Option<io::Error>) -> Answer
+    requires { IfOk call (λ n. n < 2 ^ 63) }
+    ensures answer { result ≡ answered call }
+    ensures told { IsTold error.new result }
+{
+    match call {
+        Ok(n) => answer_of(n as isize, 0),
+        Err(e) => {
+            *error = Some(e);
+            answer_of(-1, number_of(&e))
+        }
+    }
+}
+
 fn moved_further(size: usize, moved: usize) -> Transfer
     ensures { result ≡ further size moved }
 {
@@ -93,40 +129,54 @@ fn after(size: usize, moved: usize, tries: usize, answer: Answer) -> Transfer
     }
 }
 
-// Waits for a hundredth of a second, or less where a signal ends the wait.
-fn wait() {
-    let asked = timespec {
-        tv_sec: 0,
-        tv_nsec: 10000000,
-    };
-    let mut left = timespec {
-        tv_sec: 0,
-        tv_nsec: 0,
-    };
-    libc::nanosleep(&asked, &mut left);
+// Waits for a hundredth of a second.
+fn wait(clock: &impl Clock) {
+    thread::sleep(clock, Duration::from_millis(10));
 }
 
 // One call of `read`, for the bytes of the buffer behind the first `moved`.
-fn read_more(fd: i32, buffer: &mut [u8], moved: usize) -> Answer
+fn read_more<R: Read>(
+    reader: &mut R,
+    buffer: &mut [u8],
+    moved: usize,
+    error: &mut Option<io::Error>,
+) -> Answer
     requires { Place moved buffer.old }
-    ensures { Room (length buffer.old) moved result }
+    ensures room { Room (length buffer.old) moved result }
+    ensures kept { take moved buffer.new ≡ take moved buffer.old }
+    ensures gives { Gives (R.remaining reader.old) (R.remaining reader.new) moved buffer.new result }
+    ensures told { IsTold error.new result }
 {
-    let got = libc::read(fd, &mut buffer[moved..]);
-    answer_of(got, os::errno())
+    let got = reader.read(&mut buffer[moved..]);
+    answer_to(got, error)
 }
 
 // The same of `write`.
-fn write_more(fd: i32, bytes: &[u8], moved: usize) -> Answer
+fn write_more<W: Write>(
+    writer: &mut W,
+    bytes: &[u8],
+    moved: usize,
+    error: &mut Option<io::Error>,
+) -> Answer
     requires { Place moved bytes.now }
-    ensures { Room (length bytes.now) moved result }
+    ensures room { Room (length bytes.now) moved result }
+    ensures takes { Takes (W.contents writer.old) (W.contents writer.new) moved bytes.now result }
+    ensures told { IsTold error.new result }
 {
-    let got = libc::write(fd, &bytes[moved..]);
-    answer_of(got, os::errno())
+    let got = writer.write(&bytes[moved..]);
+    answer_to(got, error)
 }
 
-// Reads until the input ends or the buffer is full. Where it fails, errno tells why.
-pub fn read_full(fd: i32, buffer: &mut [u8]) -> Transfer
-    ensures { Over result (length buffer.old) }
+// Reads until the input ends or the buffer is full. Where it fails, `error` tells why.
+pub fn read_full<C: Clock, R: Read>(
+    clock: &C,
+    reader: &mut R,
+    buffer: &mut [u8],
+    error: &mut Option<io::Error>,
+) -> Transfer
+    ensures over { Over result (length buffer.old) }
+    ensures read { HasRead (R.remaining reader.old) (R.remaining reader.new) buffer.new result }
+    ensures why { TellsWhy error.new result }
 {
     let size = buffer.len();
     let mut transfer = moved_further(size, 0);
@@ -140,16 +190,23 @@ pub fn read_full(fd: i32, buffer: &mut [u8]) -> Transfer
             return transfer;
         };
         if pause {
-            wait();
+            wait(clock);
         }
-        let answer = read_more(fd, buffer, moved);
+        let answer = read_more(reader, buffer, moved, error);
         transfer = after(size, moved, tries, answer);
     }
 }
 
 // Writes all of the bytes and ends full, unless it fails, when some may have been written.
-pub fn write_full(fd: i32, bytes: &[u8]) -> Transfer
-    ensures { Over result (length bytes.now) }
+pub fn write_full<C: Clock, W: Write>(
+    clock: &C,
+    writer: &mut W,
+    bytes: &[u8],
+    error: &mut Option<io::Error>,
+) -> Transfer
+    ensures over { Over result (length bytes.now) }
+    ensures written { HasWritten (W.contents writer.old) (W.contents writer.new) bytes.now result }
+    ensures why { TellsWhy error.new result }
 {
     let size = bytes.len();
     let mut transfer = moved_further(size, 0);
@@ -163,9 +220,9 @@ pub fn write_full(fd: i32, bytes: &[u8]) -> Transfer
             return transfer;
         };
         if pause {
-            wait();
+            wait(clock);
         }
-        let answer = write_more(fd, bytes, moved);
+        let answer = write_more(writer, bytes, moved, error);
         transfer = after(size, moved, tries, answer);
     }
 }

@@ -1,108 +1,190 @@
 // The program `verdict`: reads a sheet, writes its lines, and says what went wrong. Its input here is the example of document 01, "Series that stand on a line".
 //
-// No contract can say what a program reads or writes: that the transfer here is what `read` answered is to be seen in `read_full`.
+// No contract can say what a file gives or takes. What `judge` says is of a reader and a writer whose bytes are known, and it is proved for any of them.
 #![tactic(auto)]
 
-ghost use Rattle.std.specs.Prelude.{length};
-ghost use Rattle.lines.specs.Writing.{Kept};
+ghost use Rattle.std.specs.Prelude.{◌≡◌, ◌↔◌, length, IfSome, IsTrue};
+ghost use Rattle.rules.specs.Logarithm.{squarings};
+ghost use Rattle.rules.specs.Sheet.{pollutants};
+ghost use Rattle.rules.specs.Printed.{printed};
+ghost use Rattle.lines.specs.Writing.{ascii, Kept, held};
+ghost use Rattle.transfers.specs.Transfers.{Over};
+ghost use Rattle.transfers.specs.Bytes.{HasWritten};
 ghost use Rattle.verdict.specs.Input.{Whole};
+ghost use Rattle.verdict.specs.Output.{Answered};
 
 use explaining::explain;
 use layout::Size;
-use libc::{STDERR_FILENO, STDIN_FILENO, STDOUT_FILENO};
 use lines::Lines;
 use printing::print;
+use std::env::{Env, FillError};
+use std::fs::File;
+use std::io::{Error, ErrorKind, Read, Write};
+use std::str;
+use std::time::Clock;
 use transfers::{Transfer, read_full, write_full};
 
 // A sheet of 20-byte records leaves a byte free. An input that leaves none is longer than any such sheet, and is refused whatever follows.
 const ROOM: usize = Size::LONGEST_OF_TWENTY + 1;
 
-// What went wrong, as errno has it, on standard error.
-fn fail(what: &[u8]) {
-    write_full(STDERR_FILENO, b"verdict: ");
-    os::fail(what);
+// The longest name of a file that Linux takes, and a byte more.
+const NAME_ROOM: usize = 4096;
+
+// Linux's number of a name that is too long.
+const ENAMETOOLONG: i32 = 36;
+
+// Where standard error takes no more, nobody is there to be told.
+fn say<C: Clock, E: Write>(clock: &C, errors: &mut E, words: &[u8]) {
+    write_full(clock, errors, words, &mut None);
 }
 
-fn usage() {
-    write_full(
-        STDERR_FILENO,
+// An error's words. std ends those of the system's errors with a number, which is left out.
+fn reason<'a>(error: &Error, room: &'a mut [u8]) -> &'a str {
+    let size = room.len();
+    let mut rest = &mut room[..];
+    let _ = write!(rest, "{error}");
+    let n = size.saturating_sub(rest.len());
+    let text = str::from_utf8(&room[..n]).unwrap_or("");
+    match text.rsplit_once(" (os error ") {
+        Some((words, _)) => words,
+        None => text,
+    }
+}
+
+// What went wrong, and why, on standard error. Where no call failed, one that had bytes to write took none of them.
+fn fail<C: Clock, E: Write>(clock: &C, errors: &mut E, what: &[u8], error: Option<Error>) {
+    let mut room = [0u8; 256];
+    let words = reason(
+        &error.unwrap_or(Error::from(ErrorKind::WriteZero)),
+        &mut room,
+    );
+    say(clock, errors, b"verdict: ");
+    say(clock, errors, what);
+    say(clock, errors, b": ");
+    say(clock, errors, words.as_bytes());
+    say(clock, errors, b"\n");
+}
+
+fn usage<C: Clock, E: Write>(clock: &C, errors: &mut E) {
+    say(
+        clock,
+        errors,
         b"usage: verdict [FILE]\n\
         Judges the test sheet in FILE, or on standard input where no file is named. Prints verdict,\n\
         engine and ground, and a line for each declared pollutant; for a refused sheet number and record.\n",
     );
 }
 
-fn write_lines(fd: i32, lines: Lines) -> Transfer
+fn write_lines<C: Clock, W: Write>(
+    clock: &C,
+    writer: &mut W,
+    lines: Lines,
+    error: &mut Option<Error>,
+) -> Transfer
     requires { Kept lines }
+    ensures over { Over result lines.length }
+    ensures written { HasWritten (W.contents writer.old) (W.contents writer.new) (held lines) result }
 {
     let bytes = lines.bytes;
     let length = lines.length;
-    write_full(fd, &bytes[..length])
+    write_full(clock, writer, &bytes[..length], error)
 }
 
-// The lines of a sheet that was read whole, and for people why it is refused. What was read is told, so that nobody can ask for the lines of a part.
-fn answer(read: Transfer, sheet: &[u8])
+// The lines of a sheet that was read whole, and for people why it is refused: true where the lines are written. What was read is told, so that nobody can ask for the lines of a part.
+fn answer<C: Clock, O: Write, E: Write>(
+    clock: &C,
+    output: &mut O,
+    errors: &mut E,
+    read: Transfer,
+    sheet: &[u8],
+) -> bool
     requires { Whole read (length sheet.now) }
+    ensures { Answered result (O.contents output.old) (O.contents output.new) (printed pollutants squarings sheet.now) }
 {
-    let written = write_lines(STDOUT_FILENO, print(sheet));
-    match written {
-        Transfer::Full(_) => {}
-        _ => fail(b"standard output"),
+    let mut error = None;
+    let written = write_lines(clock, output, print(sheet), &mut error);
+    let all = matches!(written, Transfer::Full(_));
+    if !all {
+        fail(clock, errors, b"standard output", error);
     }
-    write_lines(STDERR_FILENO, explain(sheet));
+    write_lines(clock, errors, explain(sheet), &mut None);
+    all
 }
 
-fn judge(fd: i32, name: &[u8]) {
+// Judges what there is to read, to its end: true where its lines are written.
+fn judge<C: Clock, I: Read, O: Write, E: Write>(
+    clock: &C,
+    input: &mut I,
+    output: &mut O,
+    errors: &mut E,
+    name: &[u8],
+) -> bool
+    ensures { IfSome (I.remaining input.old)
+        (λ sheet. Answered result (O.contents output.old) (O.contents output.new) (printed pollutants squarings sheet)) }
+{
     let mut buffer = [0u8; ROOM];
-    let read = read_full(fd, &mut buffer);
+    let mut error = None;
+    let read = read_full(clock, input, &mut buffer, &mut error);
     match read {
-        Transfer::Ended(n) => answer(read, &buffer[..n]),
-        Transfer::Full(n) => answer(read, &buffer[..n]),
-        _ => fail(name),
+        Transfer::Ended(n) => answer(clock, output, errors, read, &buffer[..n]),
+        Transfer::Full(n) => answer(clock, output, errors, read, &buffer[..n]),
+        _ => {
+            fail(clock, errors, name, error);
+            false
+        }
     }
 }
 
-fn is_help(word: &[u8]) -> bool {
-    if word.len() != 6 {
-        return false;
-    }
-    (word[0] == b'-')
-        & (word[1] == b'-')
-        & (word[2] == b'h')
-        & (word[3] == b'e')
-        & (word[4] == b'l')
-        & (word[5] == b'p')
+fn is_help(word: &[u8]) -> bool
+    ensures { IsTrue result ↔ (word.now ≡ ascii "--help") }
+{
+    word == b"--help".as_slice()
 }
 
-fn judge_file(name: &[u8]) {
+fn judge_file(rt: &HostRuntime, name: &[u8]) {
+    let mut errors = rt.stderr();
     if is_help(name) {
-        return usage();
+        return usage(rt, &mut errors);
     }
-    let fd = os::open_read(name);
-    if fd < 0 {
-        return fail(name);
+    let Ok(path) = str::from_utf8(name) else {
+        let error = Error::new(ErrorKind::InvalidFilename, "The name is not UTF-8");
+        return fail(rt, &mut errors, name, Some(error));
+    };
+    match File::open(rt, path) {
+        Ok(mut file) => {
+            judge(rt, &mut file, &mut rt.stdout(), &mut errors, name);
+        }
+        Err(error) => fail(rt, &mut errors, name, Some(error)),
     }
-    judge(fd, name);
-    libc::close(fd);
 }
 
-fn judge_argument() {
-    let mut name = io::buffer();
-    let n = os::arg(1, &mut name);
-    if os::errno() != 0 {
-        return fail(b"the name of the file");
+// Of no argument there is standard input to judge.
+fn judge_argument(rt: &HostRuntime) {
+    let mut errors = rt.stderr();
+    let mut name = [0u8; NAME_ROOM];
+    match rt.arg(1, &mut name) {
+        Ok(n) => judge_file(rt, &name[..n]),
+        Err(FillError::NotPresent) => {
+            let mut output = rt.stdout();
+            judge(
+                rt,
+                &mut rt.stdin(),
+                &mut output,
+                &mut errors,
+                b"standard input",
+            );
+        }
+        Err(FillError::TooLong) => {
+            let error = Error::from_raw_os_error(ENAMETOOLONG);
+            fail(rt, &mut errors, b"the name of the file", Some(error))
+        }
     }
-    judge_file(&name[..n]);
 }
 
 // Judges the sheet on standard input, or in the file that the one argument names.
-fn main() {
-    let arguments = os::arg_count();
-    if arguments <= 1 {
-        return judge(STDIN_FILENO, b"standard input");
+fn main(rt: HostRuntime) {
+    match rt.arg(2, &mut [0u8; NAME_ROOM]) {
+        Err(FillError::NotPresent) => judge_argument(&rt),
+        _ => usage(&rt, &mut rt.stderr()),
     }
-    if arguments == 2 {
-        return judge_argument();
-    }
-    usage();
 }

@@ -1,12 +1,12 @@
 -- The code of the operation's outcome; the operation says what the lent memory holds.
-use Rattle.arithmetic.proofs.Basics.{ap, ◌∙◌, needs}
+use Rattle.arithmetic.proofs.Basics.{ap, ◌∙◌, rules}
 use Rattle.rules.specs.Operations.{code}
 use Rattle.conformity.proofs.conformity_append_sized.Statement.{statement}
 use Rattle.conformity.proofs.conformity_append_sized.Tie as tie
 
-pub conformity-append-sized-spec : {M : Type 1} → statement M
-conformity-append-sized-spec =
+pub conformity_append_sized_spec : {M : Type 1} → statement M
+conformity_append_sized_spec =
     tie.close
     (tie.spec
-    (λ c κs. search needs) (λ c κs. search needs) (λ c. search needs)
-    (λ c. let o = c.before.before.before in (c.code.ensures ∙ ap code o.append.ensures.0, o.append.ensures.1)))
+    (λ c κs. search rules) (λ c κs. search rules) (λ c. search rules)
+    (λ c. (c.code.ensures ∙ ap code c.append.ensures.0, c.append.ensures.1)))

@@ -1,12 +1,12 @@
 -- The judgement's numbers, whatever its pairs.
-use Rattle.arithmetic.proofs.Basics.{needs}
+use Rattle.arithmetic.proofs.Basics.{rules}
 use Rattle.judging_ranges.proofs.Judging.{numbers-are}
 use Rattle.judging_ranges.proofs.numbers_of.Statement.{statement}
 use Rattle.judging_ranges.proofs.numbers_of.Tie as tie
 
-pub numbers-of-spec : {M : Type 1} → statement M
-numbers-of-spec =
+pub numbers_of_spec : {M : Type 1} → statement M
+numbers_of_spec =
     tie.close
     (tie.spec
-    (λ c κs. search needs) (λ c κs. search needs)
-    (λ c. numbers-are c.before.before.before.requires c.before.judgement-of.ensures c.numbers.ensures))
+    (λ c κs. search rules) (λ c κs. search rules)
+    (λ c. numbers-are c.requires c.judgement_of-judgement.ensures c.numbers.ensures))

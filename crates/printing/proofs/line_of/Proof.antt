@@ -1,5 +1,5 @@
 -- `line_of` meets its contract: a word, two numbers, spaces between and a newline.
-use Rattle.arithmetic.proofs.Basics.{arith, needs}
+use Rattle.arithmetic.proofs.Basics.{arith, rules}
 use Rattle.lines.proofs.Numbers.{decimal-length}
 use Rattle.lines.proofs.Written.{add-line}
 use Rattle.printing.proofs.line_of.Statement.{statement}
@@ -9,16 +9,15 @@ returns : tie.Need-returns
 returns c =
     let e = c.before.before in
     let g = e.before.before in
-    let s = g.before.before.before.before in
-    let word = rw g.before.before.nothing.ensures at g.before.with-word.ensures in
-    let few-a = decimal-length 2 s.args.a (omega (arith, s.ranges.a.fits)) in
-    let few-b = decimal-length 2 s.args.b (omega (arith, s.ranges.b.fits)) in
-    add-line _ _ _ word g.with_byte.ensures e.before.with_number.ensures.adds e.with-byte2.ensures
-    c.before.with-number2.ensures.adds c.with-byte3.ensures (omega (arith, few-a, few-b))
+    let word = rw c.nothing.ensures at c.with_word.ensures in
+    let few-a = decimal-length 2 c.args.a (omega (arith, c.ranges.a.fits)) in
+    let few-b = decimal-length 2 c.args.b (omega (arith, c.ranges.b.fits)) in
+    add-line _ _ _ word c.with_byte.ensures c.with_number.ensures.adds c.with_byte-2.ensures
+    c.with_number-2.ensures.adds c.with_byte-3.ensures (omega (arith, few-a, few-b))
 
-pub line-of-spec : {M : Type 1} → statement M
-line-of-spec =
+pub line_of_spec : {M : Type 1} → statement M
+line_of_spec =
     tie.close
     (tie.spec
-    (λ c κs. search needs) (λ c κs. search needs) (λ c κs. search needs) (λ c κs. search needs) (λ c κs. search needs) (λ c κs. search needs) (λ c κs. search needs)
+    (λ c κs. search rules) (λ c κs. search rules) (λ c κs. search rules) (λ c κs. search rules) (λ c κs. search rules) (λ c κs. search rules) (λ c κs. search rules)
     returns)

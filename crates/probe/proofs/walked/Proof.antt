@@ -1,5 +1,5 @@
 -- `walked` meets its contract: the reader stands at a record up to k, or at the end.
-use Rattle.arithmetic.proofs.Basics.{ℕ, ◌+◌, ◌-◌, ◌≤◌, ◌<◌, arith, ◌≡◌, ap, ◌∙◌, List, length, needs, lt-ltb}
+use Rattle.arithmetic.proofs.Basics.{ℕ, ◌+◌, ◌-◌, ◌≤◌, ◌<◌, arith, ◌≡◌, ap, ◌∙◌, List, length, rules, lt-ltb}
 use Rattle.rules.specs.Sizes.{records_sized}
 use Rattle.reading.specs.declared.Turn.{Turn}
 use Rattle.reading.specs.Steps.{left_at_lem, next_at, turn_at_lem}
@@ -7,10 +7,10 @@ use Rattle.probe.specs.Entries.{reached}
 use Rattle.probe.proofs.walked.Statement.{statement}
 use Rattle.probe.proofs.walked.Tie as tie
 
-abbrev invariant-loop : tie.invariant-loop
+abbrev invariant-loop : tie.invariant-loop-at
 invariant-loop size sheet k at₀ at = (at ≤ k) × (at ≤ length (records_sized size sheet))
 
-abbrev decreases-loop : tie.decreases-loop
+abbrev decreases-loop : tie.decreases-loop-at
 decreases-loop size sheet k at₀ at = k - at
 
 -- where records are left, the next number is one more
@@ -20,15 +20,15 @@ moved_on s b at e h =
     let more : at < length (records_sized s b) = omega (arith, ap (λ (x : Turn). x.left) e) in
     (ap (λ (x : Turn). x.next) e ∙ (rw (lt-ltb at (length (records_sized s b)) more)), more)
 
-pub walked-spec : {M : Type 1} → statement M
+pub walked_spec : {M : Type 1} → statement M
 unfolding reached left_at_lem
-walked-spec =
+walked_spec =
     tie.close
     (tie.spec
     invariant-loop decreases-loop
     (λ c. (omega arith, omega arith))
-    (λ c κs. search needs)
-    (λ c. omega (arith, ap (λ (x : Turn). x.left) c.before.before.turn_at.ensures))
-    (λ c. omega (arith, moved_on _ _ _ c.before.before.turn_at.ensures c.if1.false))
-    (λ c. omega (arith, moved_on _ _ _ c.before.before.turn_at.ensures c.if1.false))
+    (λ c κs. search rules)
+    (λ c. omega (arith, ap (λ (x : Turn). x.left) c.turn_at-turn.ensures))
+    (λ c. omega (arith, moved_on _ _ _ c.turn_at-turn.ensures c.if-turn-eq0.false))
+    (λ c. omega (arith, moved_on _ _ _ c.turn_at-turn.ensures c.if-turn-eq0.false))
     (λ c. omega arith))
