@@ -1,6 +1,6 @@
 -- Append: a record is judged by what the sheet before it says, and written behind it.
-use Rattle.arithmetic.proofs.Basics.{ℕ, ◌+◌, ◌-◌, ◌≤◌, ◌<◌, le_of_eq, arith, ◌≡◌, refl, sym, ◌∙◌, Bool, true, false, cond, List, ◌++◌, append-nil, eqb, length, take}
-use Rattle.arithmetic.proofs.Basics.{drop, length-drop, drop_of_length-le, take_all, take-length, drop-drop, eq-eqb, ne_eqb, lt-ltb, le-ltb}
+use Rattle.arithmetic.proofs.Basics.{ℕ, ◌+◌, ◌-◌, ◌≤◌, ◌<◌, arith, ◌≡◌, refl, sym, ◌∙◌, Bool, true, false, cond, List, ◌++◌, eqb, length, take}
+use Rattle.arithmetic.proofs.Basics.{drop, length-drop, drop-drop, eq-eqb, ne_eqb, lt-ltb, le-ltb}
 use Rattle.rules.specs.Sheet.{size, records}
 use Rattle.rules.specs.Refusals.{Check, accepted, refused, check}
 use Rattle.rules.specs.Sizes.{append_sized, appended_sized}

@@ -3,7 +3,7 @@ use Rattle.std.specs.Prelude.{ℕ, ◌≡◌, refl, List, [], ◌∷◌, ◌++�
 use Rattle.rules.specs.Logarithm.{squarings}
 use Rattle.rules.specs.Sheet.{pollutants}
 use Rattle.rules.specs.Ranges.{differ_elsewhere, differ_at_zero_hours, crossed, other_plan_lem, range_check, RangeAnswer, passes_surely, fails_surely, depends, turned_away, range, range_sized}
-use Rattle.cases.specs.Bytes.{pollutant, engine, measured, ran_in, wide, six, stop, times}
+use Rattle.cases.specs.Bytes.{pollutant, measured, ran_in, wide, six, stop, times}
 use Rattle.cases.specs.Judged.{judged}
 
 -- two sheets and the answer for them

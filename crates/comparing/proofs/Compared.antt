@@ -1,24 +1,24 @@
 -- What the numbers of two accepted sheets say, record by record, is what document 02 asks of their bytes and of their first engines.
 use Rattle.arithmetic.proofs.Basics.{ℕ, zero, suc, ◌+◌, ◌-◌, ◌*◌, ◌/◌, ◌%◌, ◌≤◌, ◌<◌, add-zero, add_assoc, div-add-mod, mul-le-mul_left, arith, ◌≡◌, refl, sym, ap, ◌∙◌, ⊎_elim}
-use Rattle.arithmetic.proofs.Basics.{Bool, true, false, not, ◌&&◌, ◌||◌, cond, List, [], ◌∷◌, leb, ltb, eqb, length, get_or, take, drop, get_or-take, get_or-drop, get_or-eq_default}
-use Rattle.arithmetic.proofs.Basics.{eqb-true, eq-eqb, not-false, le-leb, lt-leb, le-ltb, le_refl, never, or-false, or_same, or_right, and-true, and_left, and_right, and-never, by-test, same_test}
+use Rattle.arithmetic.proofs.Basics.{Bool, true, false, not, ◌&&◌, ◌||◌, cond, List, [], ◌∷◌, leb, ltb, eqb, length, drop, get_or-take, get_or-drop, get_or-eq_default}
+use Rattle.arithmetic.proofs.Basics.{eqb-true, eq-eqb, not-false, le-leb, lt-leb, le-ltb, never, or-false, or_same, or_right, and-true, and_left, and_right, and-never, by-test, same_test}
 use Rattle.arithmetic.proofs.Basics.{lt-or-ge, any-those, some-none, none-some, some_same}
 use native.Mathlib.Nat.{mod-lt}
 use Rattle.rules.specs.Tools.{any, byte, four}
-use Rattle.rules.specs.Sheet.{Record, size, records, engine_kind, stop_kind, run_in_kind, measures, kind, measurement, of_kind, heading, engines, run_ins, plan_number, numbers}
+use Rattle.rules.specs.Sheet.{Record, size, records, stop_kind, run_in_kind, measures, kind, measurement, of_kind, plan_number, numbers}
 use Rattle.rules.specs.Plans.{plan_of}
 use Rattle.rules.specs.Demands.{in_measurement, first_engine}
 use Rattle.rules.specs.Ranges.{differ_elsewhere, differ_at_zero_hours, crossed}
 use Rattle.arithmetic.proofs.Pairs.{Pairs, pairs-at}
-use Rattle.accepted.specs.Sheets.{record_at_lem, engines_in, run_ins_in, AcceptedSheet}
+use Rattle.accepted.specs.Sheets.{record_at_lem, engines_in, AcceptedSheet}
 use Rattle.accepted.proofs.Records.{record-at, length-records, whole-records, four-take, four-drop}
 use Rattle.accepted.proofs.Faultless.{sound}
 use Rattle.accepted.proofs.SameKinds.{SameKind, same-heading, same-engines}
 use Rattle.accepted.proofs.Engines.{stop-behind}
 use Rattle.accepted.proofs.Ranges.{none_of, of_none}
-use Rattle.accepted.proofs.Sheets.{clean, inside, engine-is, run-in-is, record-inside, whole-inside}
+use Rattle.accepted.proofs.Sheets.{clean, inside, engine-is, run-in-is, record-inside}
 use Rattle.comparing.specs.Ranges.{CompareRange}
-use Rattle.comparing.specs.Records.{disagree, any_disagrees, is_fixed, record_differs, record_crosses, records_differ, records_cross}
+use Rattle.comparing.specs.Records.{disagree, any_disagrees, is_fixed, record_differs, records_differ, records_cross}
 
 -- ---- a number of four bytes and its bytes
 

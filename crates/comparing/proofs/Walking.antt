@@ -1,5 +1,5 @@
 -- One pass over the records of two sheets: what was found so far, and with one record more.
-use Rattle.arithmetic.proofs.Basics.{ℕ, suc, ◌+◌, ◌*◌, ◌/◌, ◌≤◌, ◌<◌, add-one, arith, ◌≡◌, refl, sym, ap, ◌∙◌, Bool, true, false, not, ◌&&◌, ◌||◌, List, eqb, length}
+use Rattle.arithmetic.proofs.Basics.{ℕ, ◌+◌, ◌*◌, ◌/◌, ◌≤◌, ◌<◌, add-one, arith, ◌≡◌, refl, sym, ap, ◌∙◌, Bool, true, false, not, ◌&&◌, ◌||◌, List, eqb, length}
 use Rattle.arithmetic.proofs.Basics.{not-or, or_same, or_assoc}
 use Rattle.rules.specs.Tools.{some, byte, four}
 use Rattle.rules.specs.Sheet.{size, engine_kind, run_in_kind}

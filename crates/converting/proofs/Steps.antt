@@ -1,7 +1,7 @@
 -- The converter's loop: what is written so far, and behind it what the output held.
-use Rattle.arithmetic.proofs.Basics.{ℕ, zero, suc, ◌+◌, ◌-◌, ◌*◌, ◌/◌, ◌≤◌, ◌<◌, le_of_eq, mul-le-mul_left, add-one, arith, ◌≡◌, refl, sym, ap, ◌∙◌, List, ◌∷◌, ◌++◌, append_assoc}
-use Rattle.arithmetic.proofs.Basics.{append-nil, length, take, drop, replicate, length-append, length-drop, length-replicate, drop_of_length-le, take_at, drop_at, drop-drop, take_all}
-use Rattle.arithmetic.proofs.Basics.{take-length, length-take-le}
+use Rattle.arithmetic.proofs.Basics.{ℕ, zero, suc, ◌+◌, ◌-◌, ◌*◌, ◌/◌, ◌≤◌, ◌<◌, mul-le-mul_left, add-one, arith, ◌≡◌, refl, sym, ap, ◌∙◌, List, ◌∷◌, ◌++◌, append_assoc}
+use Rattle.arithmetic.proofs.Basics.{length, take, drop, replicate, length-append, length-drop, length-replicate, take_at, drop_at, drop-drop}
+use Rattle.arithmetic.proofs.Basics.{length-take-le}
 use Rattle.rules.specs.Sheet.{pollutants, size}
 use Rattle.accepted.specs.Sheets.{record_at_lem}
 use Rattle.accepted.proofs.Sheets.{whole-inside}

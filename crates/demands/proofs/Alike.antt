@@ -2,7 +2,7 @@
 use Rattle.arithmetic.proofs.Basics.{ℕ, suc, ◌+◌, ◌*◌, ◌/◌, ◌%◌, ◌≤◌, ◌<◌, add-zero, mul-le-mul_left, arith, ◌≡◌, refl, sym, ap, ◌∙◌, true, false, ◌&&◌, List}
 use Rattle.arithmetic.proofs.Basics.{[], leb, eqb, length, take, drop, get_or-take, get_or-drop, length-take-le, length-drop, ext_get_or, lt-leb, eqb-true, and-never}
 use Rattle.rules.specs.Tools.{byte}
-use Rattle.rules.specs.Sheet.{Record, size, pollutant_kind, engine_kind, stop_kind, measures, records, kind, plan, measurement, of_kind, stopped, plan_number, pollutant, declared}
+use Rattle.rules.specs.Sheet.{Record, size, pollutant_kind, stop_kind, measures, records, kind, plan, measurement, of_kind, stopped, plan_number, pollutant, declared}
 use Rattle.rules.specs.Demands.{Alike, NoneHigher}
 use Rattle.arithmetic.proofs.Pairs.{Pairs, none, more, pairs-at, pairs-those, same_map, same-any}
 use Rattle.accepted.proofs.Records.{record-at, length-records, whole-records, four-take, four-drop}

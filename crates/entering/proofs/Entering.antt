@@ -3,7 +3,7 @@ use Rattle.arithmetic.proofs.Basics.{ℕ, ◌+◌, ◌-◌, ◌*◌, ◌/◌, �
 use Rattle.arithmetic.proofs.Basics.{eqb, length, get_or, set, get_or-eq_default, eqb-true, eqb-false, ne_eqb, le-leb, lt-leb, ltb-true, ltb-false, leb-true, leb-false}
 use Rattle.arithmetic.proofs.Basics.{or-false, by-test}
 use Rattle.rules.specs.Tools.{within}
-use Rattle.rules.specs.Sheet.{size, most, more_pollutants, records, cause, pending, is_pending, engines}
+use Rattle.rules.specs.Sheet.{size, most, more_pollutants, cause, pending, is_pending}
 use Rattle.rules.specs.Refusals.{Check, accepted, refused, greatest_cause, check}
 use Rattle.rules.specs.Findings.{no_pending, enter, put_two, entered, enter_sized, entered_sized}
 use Rattle.accepted.specs.Sheets.{record_at_lem, engines_in}

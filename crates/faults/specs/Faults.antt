@@ -1,6 +1,6 @@
 -- The refusal of a record by what the program keeps of the records before it; proofs/Agreement: it is document 01's.
 use Rattle.std.specs.Prelude.{ℕ, Bool, not, ◌&&◌, cond, leb, eqb}
-use Rattle.rules.specs.Sheet.{Record, pollutant_kind, engine_kind, stop_kind, small_engine_kind, run_in_kind, kind, plan}
+use Rattle.rules.specs.Sheet.{Record, pollutant_kind, engine_kind, stop_kind, small_engine_kind, run_in_kind, kind}
 use Rattle.rules.specs.Plans.{in_service_lem, number_of}
 use Rattle.layout.specs.declared.Size.{Size}
 use Rattle.zeros.specs.Zeros.{unused_from_twelve_lem, engine_unused, stop_unused_lem}

@@ -19,7 +19,7 @@ use Rattle.checking.specs.Check.{Valid}
 use Rattle.checking.proofs.Laws.{plan-is, accepted-so}
 use Rattle.tally.specs.declared.Numbers.{Numbers}
 use Rattle.tally.specs.declared.Judgement.{Judgement}
-use Rattle.tally.specs.Judgements.{numbers_of_lem, numbers_answer, judgement_is, six_pairs, JudgementIs}
+use Rattle.tally.specs.Judgements.{numbers_of_lem, numbers_answer, JudgementIs}
 use Rattle.comparing.specs.declared.Comparison.{Comparison}
 use Rattle.comparing.specs.Ranges.{CompareRange}
 use Rattle.comparing.specs.Comparisons.{Compares}

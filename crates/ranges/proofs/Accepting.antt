@@ -1,8 +1,8 @@
 -- Every sheet between two accepted ones is accepted, under every plan but 4, whose causes go by the measurements.
-use Rattle.arithmetic.proofs.Basics.{ℕ, ◌≤◌, ◌<◌, arith, ◌≡◌, refl, sym, ◌∙◌, ◌⊎◌, inl, inr, ⊎_elim, Bool, true, false, not, ◌||◌, cond, List, [], ◌∷◌, ◌++◌, append_assoc}
+use Rattle.arithmetic.proofs.Basics.{ℕ, ◌≤◌, arith, ◌≡◌, refl, sym, ◌∙◌, ◌⊎◌, inl, inr, ⊎_elim, Bool, true, false, not, ◌||◌, cond, List, [], ◌∷◌, ◌++◌, append_assoc}
 use Rattle.arithmetic.proofs.Basics.{eqb, le-leb, eq-eqb, eqb-true, not-false, by-test, in-range, any_part}
 use Rattle.arithmetic.proofs.Pairs.{Pairs, none, more, pairs-append, pairs-follow}
-use Rattle.rules.specs.Tools.{within, byte}
+use Rattle.rules.specs.Tools.{within}
 use Rattle.rules.specs.Logarithm.{greatest}
 use Rattle.rules.specs.Sheet.{Record, Pollutant, engine_kind, run_in_kind, measures, records, kind, plan, cause, measurement, declares, declared, plan_number}
 use Rattle.rules.specs.Plans.{in_service_lem, number_of}
@@ -12,7 +12,6 @@ use Rattle.accepted.proofs.SameKinds.{kind-misplaced, same-faults}
 use Rattle.accepted.proofs.Ranges.{none_of, of_none}
 use Rattle.demands.proofs.Alike.{Same, records-same, same_kind, plan-same, declared_same}
 use Rattle.rules.specs.Ranges.{Between}
-use Rattle.ranges.proofs.Tests.{alike-swap}
 
 -- ---- a number between two that are right
 

@@ -1,6 +1,6 @@
 -- Report: judging refuses what the check refuses, and the 20 bytes are judging's answer.
 use Rattle.arithmetic.proofs.Basics.{ℕ, ◌+◌, ◌*◌, ◌≤◌, ◌<◌, arith, ◌≡◌, refl, sym, ap, ◌∙◌, List, [], ◌∷◌, ◌++◌, length, take, drop, replicate, length-append, length-replicate}
-use Rattle.arithmetic.proofs.Basics.{take-length, take_at, lt-ltb, le-ltb}
+use Rattle.arithmetic.proofs.Basics.{take_at, lt-ltb, le-ltb}
 use Rattle.rules.specs.Logarithm.{squarings}
 use Rattle.rules.specs.Sheet.{pollutants, more_pollutants, size, records, engines}
 use Rattle.rules.specs.Series.{Pair, pair, Answer, refusal, judgement, judge_records}

@@ -73,7 +73,11 @@ pub fn evidence<'a>(size: usize, bytes: &'a [u8], code: &mut u32) -> &'a [u8]
     *code = 0;
     let judgement = judgement_of(size, bytes, sheet);
     let verdict = judgement.verdict;
-    let Numbers { engine, grounds, .. } = verdict.numbers();
+    let Numbers {
+        engine,
+        grounds,
+        ..
+    } = verdict.numbers();
     // "through the deciding engine's record; the whole sheet where undecided, stopped or referred", and where held: the ground tells which
     if (grounds == 1) | (grounds == 2) {
         let end = size.bytes() * (sheet.head as usize + engine as usize);

@@ -2,7 +2,7 @@
 use Rattle.std.proofs.Common.{ap, ◌∙◌, sym, arith}
 use Rattle.arithmetic.proofs.Basics.{◌+◌, ◌≤◌, ◌≡◌, length}
 use Rattle.rules.specs.Sheet.{size}
-use Rattle.rules.specs.Operations.{append, appended}
+use Rattle.rules.specs.Operations.{appended}
 use Rattle.layout.specs.Sizes.{width_is}
 use Rattle.outcomes.specs.Outcomes.{outcome_is, check_is}
 use Rattle.outcomes.proofs.Kept.{kept}

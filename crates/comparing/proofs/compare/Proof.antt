@@ -1,7 +1,7 @@
 -- The record before the first engine's tells whether there are run-in values; what the numbers then say is what document 02 asks.
-use Rattle.arithmetic.proofs.Basics.{◌+◌, ◌-◌, ◌≤◌, ◌<◌, arith, ◌≡◌, refl, sym, ◌∙◌, eqb, rules}
+use Rattle.arithmetic.proofs.Basics.{◌-◌, arith, ◌≡◌, refl, sym, ◌∙◌, eqb, rules}
 use Rattle.rules.specs.Sheet.{run_in_kind, kind}
-use Rattle.accepted.specs.Sheets.{record_at_lem, engines_in}
+use Rattle.accepted.specs.Sheets.{record_at_lem}
 use Rattle.accepted.proofs.Sheets.{headed, inside, record-inside}
 use Rattle.layout.specs.Sizes.{width_is}
 use Rattle.comparing.proofs.Compared.{Bytes, differs-is, crosses-is}

@@ -15,14 +15,14 @@ abbrev decreases-loop : tie.decreases-loop-k
 decreases-loop size low high run_in_lem start n differs₀ crosses₀ at₀ k₀ differs crosses at k = n - k
 
 -- there is a record more, and it lies in both sheets
-more : (c : tie.In-loop-k invariant-loop decreases-loop) →    c.loop-k.k < length c.args.low.now / size (width_is c.args.size)
+more : (c : tie.In-loop-k invariant-loop decreases-loop) → c.loop-k.k < length c.args.low.now / size (width_is c.args.size)
 more c = rw c.records_in-n.ensures at c.loop-k-test.true
 
-lies : (c : tie.In-loop-k invariant-loop decreases-loop) →    BothRange c.loop-k.at (size (width_is c.args.size)) (length c.args.low.now) (length c.args.high.now)
+lies : (c : tie.In-loop-k invariant-loop decreases-loop) → BothRange c.loop-k.at (size (width_is c.args.size)) (length c.args.low.now) (length c.args.high.now)
 lies c = inside c.loop-k.invariant (more c) c.requires
 
 -- behind the last
-at-end : (c : tie.After-loop-k invariant-loop decreases-loop) →    c.loop-k.k ≡ length c.args.low.now / size (width_is c.args.size)
+at-end : (c : tie.After-loop-k invariant-loop decreases-loop) → c.loop-k.k ≡ length c.args.low.now / size (width_is c.args.size)
 at-end c = omega (arith, c.records_in-n.ensures, c.loop-k.invariant.few)
 
 pub compare_records_spec : {M : Type 1} → statement M

@@ -7,7 +7,7 @@ use Rattle.series.proofs.Judging.{evidence-unknown, evidence-known, check-unknow
 use Rattle.series.proofs.evidence.Statement.{statement}
 use Rattle.series.proofs.evidence.Tie as tie
 
-accepted : (c : tie.In-Accepted) →    Valid c.in-Known.size c.args.bytes.now c.in-Accepted.sheet
+accepted : (c : tie.In-Accepted) → Valid c.in-Known.size c.args.bytes.now c.in-Accepted.sheet
 accepted c = valid _ _ c.check_sheet-checked.ensures c.in-Accepted.is
 
 returns : tie.Need-returns-in_default
@@ -42,8 +42,7 @@ returns-3 : tie.Need-returns-then-grounds
 returns-3 c =
     let i = c.before.before in
     let n = i.before in
-    let v = accepted n.before.before in
-    (
+    let v = accepted n.before.before in (
       rw c.bytes.ensures (evidence-part v c.judgement_of-judgement.ensures c.numbers-engine.ensures c.if-grounds.true)
           ∙ evidence-known _ _ c.of.ensures c.in-Known.is,
       ap code (sym v.accepts ∙ check-known _ _ c.of.ensures c.in-Known.is),
@@ -52,8 +51,7 @@ returns-3 c =
 returns-4 : tie.Need-returns
 returns-4 c =
     let n = c.before in
-    let v = accepted n.before.before in
-    (
+    let v = accepted n.before.before in (
       evidence-whole v c.judgement_of-judgement.ensures c.numbers-engine.ensures c.if-grounds.false ∙ evidence-known _ _ c.of.ensures c.in-Known.is,
       ap code (sym v.accepts ∙ check-known _ _ c.of.ensures c.in-Known.is),
     )
