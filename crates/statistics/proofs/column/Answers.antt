@@ -1,0 +1,19 @@
+-- `column` meets its contract: plan 3 counts, and each of the others takes logarithms, with its own table.
+use Rattle.arithmetic.proofs.Basics.{refl, sym, arith}
+use Rattle.layout.specs.Sizes.{width_is}
+use Rattle.statistics.proofs.Going.{early-open, in-engines}
+use Rattle.statistics.proofs.column.Goals as goal
+
+pub returns-then-rows-lt3 : goal.returns-then-rows-lt3
+returns-then-rows-lt3 c =
+    let a = c.args in
+    record { declared = refl; decides = sym (early-open (width_is a.size) a.plan a.bytes.now a.number a.limit a.deviation _ c.if-rows-lt3.true) }
+
+-- where there are rows, the sheet has an engine
+pub correction_of-correction-requires : goal.correction_of-correction-requires
+correction_of-correction-requires c =
+    let p = c.requires in
+    record { sheet = rw p.sheet.planned at p.sheet; declared = p.declared; tested = omega (arith, c.if-rows-lt3.false, (in-engines p).0) }
+
+pub returns-in-Attributes : goal.returns-in-Attributes
+returns-in-Attributes c = rw c.in-Attributes.is (c.column-in-Attributes.ensures _)
