@@ -1,4 +1,4 @@
--- What corrects a column, by whether the record before the first engine's is one of run_in values; and products compared by a quotient.
+-- What corrects a column, by whether the record before the first engine's is one of run-in values; and products compared by a quotient.
 use Rattle.arithmetic.proofs.Basics.{ℕ, zero, suc, ◌-◌, ◌*◌, ◌/◌, ◌≤◌, arith, ◌≡◌, refl, sym, ap, ◌∙◌, false, List, [], ◌∷◌, eqb, length, get_or, take, add-zero}
 use Rattle.arithmetic.proofs.Basics.{ltb, ltb-true, lt-ltb, le-ltb, never, by-test}
 use native.Mathlib.Nat.{div-lt_iff_lt-mul, mul-div_cancel}

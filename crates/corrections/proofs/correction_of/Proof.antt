@@ -1,4 +1,4 @@
--- `correction_of` meets its contract: the record before the first engine's tells whether there are run_in values.
+-- `correction_of` meets its contract: the record before the first engine's tells whether there are run-in values.
 use Rattle.arithmetic.proofs.Basics.{ℕ, ◌+◌, ◌*◌, ◌≤◌, arith, length, ne_eqb, rules}
 use Rattle.rules.specs.Sheet.{size}
 use Rattle.accepted.proofs.Ranges.{number_in}
