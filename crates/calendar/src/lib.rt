@@ -14,17 +14,16 @@ fn is_leap(year: u32) -> bool
 }
 
 // How many days the month has, 1 to 12; none past December.
+#[tactic(auto, using(crate::proofs::Months::by_month))]
 fn days_in(year: u32, month: u32) -> u32
     ensures { result ≡ days year month }
 {
-    if month == 2 {
-        if is_leap(year) { 29 } else { 28 }
-    } else if (month == 4) | (month == 6) | (month == 9) | (month == 11) {
-        30
-    } else if month <= 12 {
-        31
-    } else {
-        0
+    match month {
+        2 if is_leap(year) => 29,
+        2 => 28,
+        4 | 6 | 9 | 11 => 30,
+        0..=12 => 31,
+        _ => 0,
     }
 }
 
@@ -35,7 +34,7 @@ pub fn is_day(date: u32) -> bool
     let year = date / 10_000;
     let month = date / 100 % 100;
     let day = date % 100;
-    ((1 <= year) & (year <= LAST_YEAR))
-        & ((1 <= month) & (month <= 12))
-        & ((1 <= day) & (day <= days_in(year, month)))
+    (1..=LAST_YEAR).contains(&year)
+        & (1..=12).contains(&month)
+        & (1..=days_in(year, month)).contains(&day)
 }

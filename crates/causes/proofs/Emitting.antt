@@ -1,8 +1,9 @@
 -- What comes before a row's statistics: which rows end or hold the series, and which are looked at.
-use Rattle.arithmetic.proofs.Basics.{ℕ, suc, ◌+◌, ◌≤◌, ◌<◌, arith, ◌≡◌, refl, ap, Bool, true, false, not, ◌&&◌, ◌||◌, cond, List, [], ◌∷◌, ◌++◌, leb, ltb}
+use Rattle.arithmetic.proofs.Basics.{ℕ, suc, ◌+◌, ◌≤◌, ◌<◌, arith, ◌≡◌, refl, ap, ◌∙◌, Bool, true, false, not, ◌&&◌, ◌||◌, cond, List, [], ◌∷◌, ◌++◌, leb, ltb}
 use Rattle.arithmetic.proofs.Basics.{eqb, length, get_or, take, length-append, take-suc, never, eqb-true, eqb-false}
 use Rattle.arithmetic.proofs.Basics.{or_same, or_assoc, by-test, not-ltb, leb-same, those-append, any-those}
 use mir.Val.{bool_byte}
+use Rattle.std.specs.List.{list_any, range_with_len}
 use Rattle.rules.specs.Tools.{any, those}
 use Rattle.rules.specs.Sheet.{Record}
 use Rattle.rules.specs.Plans.{Plan, Row}
@@ -97,3 +98,13 @@ first_by w b h = ap (λ t. cond t 4 3) (three (engines_in w b) h)
     three (x ∷ []) l = absurd (omega arith)
     three (x ∷ y ∷ []) l = absurd (omega arith)
     three (x ∷ y ∷ z ∷ es) l = rw (or_same (has_cause z), or_assoc (has_cause x) (has_cause y) (has_cause z)) refl
+
+-- the same where they are asked from 0 on
+pub first_asked : (w : ℕ) (b : List ℕ) → 3 ≤ length (engines_in w b)
+    → {r : Bool} → r ≡ list_any (λ k. not (eqb (cause_in w b k) 0)) (range_with_len 0 3) → cond r 4 3 ≡ first_row_lem w b
+first_asked w b h e =
+    let asked : ℕ → Bool = λ k. not (eqb (cause_in w b k) 0) in
+    ap (λ t. cond t 4 3) (e ∙ in_order (asked 0) (asked 1) (asked 2)) ∙ first_by w b h
+  where
+    in_order : (x y z : Bool) → x || (y || (z || false)) ≡ (x || y) || z
+    in_order x y z = rw (or_same z, or_assoc x y z) refl

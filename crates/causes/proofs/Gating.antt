@@ -5,12 +5,15 @@ use Rattle.arithmetic.proofs.Basics.{take-length, get_or, eqb-true, eqb-false, n
 use Rattle.arithmetic.proofs.Basics.{by-test, never, not-ltb, any_append, any_snoc, map-append, those-append, any-those}
 use mir.Val.{bool_byte}
 use Rattle.rules.specs.Tools.{any, those}
-use Rattle.rules.specs.Sheet.{Record, cause, is_pending}
-use Rattle.rules.specs.Plans.{Plan, in_service_lem, last_row_lem}
+use Rattle.rules.specs.Sheet.{Record, Pollutant, cause, is_pending}
+use Rattle.rules.specs.Plans.{Plan, known_deviation_lem, unknown_deviation_lem, attributes, in_service_lem, corrected, last_row_lem}
 use Rattle.rules.specs.Series as rules
 use Rattle.accepted.specs.Sheets.{pollutants_in, engines_in}
 use Rattle.accepted.proofs.Causes.{has_cause}
-use Rattle.accepted.proofs.Sheets.{rows_fit, caused}
+use Rattle.accepted.proofs.Sheets.{is_in_service, rows_fit, caused}
+use Rattle.plan.specs.declared.Plan as declared
+use Rattle.plan.specs.declared.Plan.TheVariants as variant
+use Rattle.plan.specs.Plan.{plan_is}
 use Rattle.accepted.proofs.BeforeRows.{caused-cut, repeats_of, pending_of, referral_by, left_by, before_by, before-is}
 use Rattle.columns.specs.Columns.{open_after, cause_after, held_after, referral_after, gate, closes}
 use Rattle.columns.proofs.Gates.{gate-opens, gate-open, gate-ends}
@@ -18,11 +21,26 @@ use Rattle.causes.specs.Causes.{cause_in, equal_causes_lem, emitters_in, repeats
 use Rattle.causes.specs.Ranges.{InServiceRange}
 use Rattle.causes.proofs.Emitting.{those-not, those-next, count_next, closes-pick}
 
+-- every plan of the program's but plan 4
+pub not-in-service : (plan : declared.Plan) → (plan ≡ variant.InService → ⊥) → is_in_service (plan_is plan) ≡ false
+not-in-service variant.KnownDeviation h = refl
+not-in-service variant.UnknownDeviation h = refl
+not-in-service variant.Attributes h = refl
+not-in-service variant.InService h = absurd (h refl)
+not-in-service variant.Corrected h = refl
+
 no_length : {A : Type 0} (xs : List A) → length xs ≡ 0 → xs ≡ []
 no_length [] e = refl
 no_length (x ∷ xs) e = absurd (omega arith)
 
 -- plans 1 to 3 and 5: what comes before a row's statistics ends no series
+pub plain_before : (plan : Plan) → is_in_service plan ≡ false → (ps : List Pollutant) (k : ℕ) (first : List Record) → rules.plan_before plan ps k first ≡ rules.statistics
+plain_before known_deviation_lem h ps k first = refl
+plain_before unknown_deviation_lem h ps k first = refl
+plain_before attributes h ps k first = refl
+plain_before in_service_lem h ps k first = never h
+plain_before corrected h ps k first = refl
+
 pub plain-gate : (w : ℕ) (plan : Plan) (b : List ℕ) (n : ℕ) → ((k : ℕ) (first : List Record) → rules.plan_before plan (pollutants_in w b) k first ≡ rules.statistics)
     → open_after n ≡ gate_of_lem w plan b n
 unfolding rules.before_row

@@ -17,11 +17,11 @@ use plan::Plan;
 use record::{PENDING, cause_of, record_at};
 
 // The last row of plan 4.
-const LAST_ROW: u64 = Plan::IN_SERVICE_LAST_ROW as u64;
+const LAST_ROW: usize = Plan::IN_SERVICE_LAST_ROW as usize;
 
 // How many rows' statistics may be looked at: all of them, or those before the row that equal cause or referral ends the series at, or that
 // a pending finding holds it at.
-#[derive(Clone, Copy)]
+#[derive(Clone, Copy, PartialEq, Eq)]
 pub enum Gate {
     Open(u8),
     Cause(u8),
@@ -35,10 +35,7 @@ impl Gate {
         ensures { result ≡ rows_of (gate_is self) }
     {
         match self {
-            Gate::Open(n) => n,
-            Gate::Cause(n) => n,
-            Gate::Held(n) => n,
-            Gate::Referral(n) => n,
+            Gate::Open(n) | Gate::Cause(n) | Gate::Held(n) | Gate::Referral(n) => n,
         }
     }
 }
@@ -57,10 +54,8 @@ fn equal_causes(size: Size, bytes: &[u8], start: usize, n: usize, cause: u32) ->
     ensures { result ≡ equal_causes_lem (width_is size) bytes.now n cause }
 {
     let mut count: usize = 0;
-    let mut k: usize = 0;
-    while k < n {
+    for k in 0..n {
         count += (cause_at(size, bytes, start, k) == cause) as usize;
-        k += 1;
     }
     count
 }
@@ -87,21 +82,20 @@ fn in_service_gate(size: Size, bytes: &[u8], start: usize, engines: usize) -> Ga
     }
     let mut repeated = false;
     let mut pending = false;
-    let mut n: usize = 0;
-    while n < engines {
+    for n in 0..engines {
         let cause = cause_at(size, bytes, start, n);
         repeated = repeated | repeats(size, bytes, start, n, cause);
         pending = pending | (cause == PENDING);
-        let rows = n as u8;
-        n += 1;
-        if (3 <= n) & repeated {
-            return Gate::Cause(rows);
+        let before = n as u8;
+        let row = n + 1;
+        if (3 <= row) & repeated {
+            return Gate::Cause(before);
         }
-        if (3 <= n) & pending {
-            return Gate::Held(rows);
+        if (3 <= row) & pending {
+            return Gate::Held(before);
         }
-        if (n as u64 == LAST_ROW) & (2 <= emitters) {
-            return Gate::Referral(rows);
+        if (row == LAST_ROW) & (2 <= emitters) {
+            return Gate::Referral(before);
         }
     }
     Gate::Open(engines as u8)
@@ -112,12 +106,10 @@ pub fn gate_of(size: Size, bytes: &[u8], start: usize, engines: usize, plan: Pla
     requires { GateRange (width_is size) bytes.now start engines plan }
     ensures { gate_is result ≡ gate_of_lem (width_is size) (plan_is plan) bytes.now engines }
 {
+    let rows = engines as u8;
     match plan {
-        Plan::KnownDeviation => Gate::Open(engines as u8),
-        Plan::UnknownDeviation => Gate::Open(engines as u8),
-        Plan::Attributes => Gate::Open(engines as u8),
         Plan::InService => in_service_gate(size, bytes, start, engines),
-        Plan::Corrected => Gate::Open(engines as u8),
+        _ => Gate::Open(rows),
     }
 }
 
@@ -127,13 +119,9 @@ pub fn first_row(size: Size, bytes: &[u8], start: usize, plan: Plan) -> usize
     requires { FirstRange (width_is size) bytes.now start plan }
     ensures { result ≡ first_row_lem (width_is size) bytes.now }
 {
-    if let Plan::InService = plan {
-        if (cause_at(size, bytes, start, 0) != 0)
-            | (cause_at(size, bytes, start, 1) != 0)
-            | (cause_at(size, bytes, start, 2) != 0)
-        {
-            return 4;
-        }
+    if plan == Plan::InService && (0..3).any(|k| cause_at(size, bytes, start, k) != 0) {
+        4
+    } else {
+        3
     }
-    3
 }

@@ -1,4 +1,5 @@
 -- The check of records after others, a record at a time: what is left to check is the answer.
+use Rattle.std.specs.Prelude.{Ok, Err}
 use Rattle.arithmetic.proofs.Basics.{ℕ, suc, ◌+◌, ◌*◌, ◌/◌, ◌≤◌, ◌<◌, add-zero, add-suc, add-one, div-le_of_le-mul, arith, ◌≡◌, refl, sym, ap, ◌∙◌, cond, List, [], ◌∷◌, ◌++◌}
 use Rattle.arithmetic.proofs.Basics.{eqb, length, length-append, drop, drop_of_length-le, drop-cons, ne_eqb}
 use Rattle.rules.specs.Sheet.{Record, more_pollutants, size, most, records}
@@ -12,7 +13,6 @@ use Rattle.summary.specs.declared.Summary.{Summary}
 use Rattle.summary.specs.State.{summary_with, Room}
 use Rattle.faults.specs.Faults.{fault_by}
 use Rattle.faults.proofs.Agreement.{Agrees, step, fault-agrees, counts-fit}
-use Rattle.checking.specs.declared.Checked.TheVariants as checked
 use Rattle.checking.specs.Check.{checked_from, AfterRanges}
 use Rattle.checking.proofs.Laws.{agrees-clean}
 
@@ -36,7 +36,7 @@ module _ {z : Size} {s : Summary} {first : ℕ} (b : List ℕ) (k : ℕ) {t : Su
   abbrev rs : List Record
   rs = records (width_is z) b
 
-  pub done : length b / size (width_is z) ≤ k → checked.Accepted t ≡ checked_from z s first rs
+  pub done : length b / size (width_is z) ≤ k → Ok t ≡ checked_from z s first rs
   unfolding checked_from
   done h =
       let m : length rs ≤ k = rw (length-records (width_is z) b) h in
@@ -62,12 +62,12 @@ module _ {z : Size} {s : Summary} {first : ℕ} (b : List ℕ) (k : ℕ) {t : Su
           drop-cons rs k [] inside ∙ ap (λ (x : Record). x ∷ drop (suc k) rs) (record-at (width_is z) b k h ∙ sym e)
 
       opened : cond (eqb n 0) (checked_from z (summary_with t r) (suc (first + k)) (drop (suc k) rs))
-          (checked.Refused (record { number = n; place = first + k }))
+          (Err (record { number = n; place = first + k }))
           ≡ checked_from z s first rs
       unfolding checked_from
       opened = rw (split, ← f) at g.left
 
-      pub faulty : (n ≡ 0 → ⊥) → checked.Refused (record { number = n; place = first + k }) ≡ checked_from z s first rs
+      pub faulty : (n ≡ 0 → ⊥) → Err (record { number = n; place = first + k }) ≡ checked_from z s first rs
       faulty d = rw (ne_eqb n 0 d) at opened
 
       pub next : n ≡ 0 → {u : Summary} → u ≡ summary_with t r → Progress z s first rs (k + 1) u

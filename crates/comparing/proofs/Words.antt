@@ -1,31 +1,10 @@
--- A record's numbers in two sheets: they lie in both, and their tests are those of the definition.
-use Rattle.arithmetic.proofs.Basics.{ℕ, ◌+◌, ◌≤◌, add_assoc, arith, ◌≡◌, Bool, false, ◌||◌, List, or_same, or_assoc}
+-- The tests of a record's numbers in two sheets are those of the definition.
+use Rattle.arithmetic.proofs.Basics.{ℕ, ◌+◌, add_assoc, ◌≡◌, Bool, false, ◌||◌, List, or_same, or_assoc}
 use Rattle.rules.specs.Tools.{four}
-use Rattle.rules.specs.Sheet.{size}
 use Rattle.layout.specs.declared.Size.{Size}
 use Rattle.layout.specs.declared.Size.TheVariants.{Twenty, TwentyEight}
 use Rattle.layout.specs.Sizes.{width_is}
-use Rattle.layout.proofs.Sizes.{width-range}
-use Rattle.comparing.specs.Ranges.{BothRange}
 use Rattle.comparing.specs.Records.{disagree, either_disagrees_lem, any_disagrees}
-
--- ---- bytes within others that lie in both
-
-pub within : {i many low high : ℕ} → BothRange i many low high → (k m : ℕ) → k + m ≤ many → BothRange (i + k) m low high
-within r k m h = record { in_low = omega (arith, r.in_low); in_high = omega (arith, r.in_high) }
-
-pub first_of : {i many low high : ℕ} → BothRange i many low high → (m : ℕ) → m ≤ many → BothRange i m low high
-first_of r m h = record { in_low = omega (arith, r.in_low); in_high = omega (arith, r.in_high) }
-
--- two numbers of a record: every record has them from byte 4 and byte 12 on, and one of 28 bytes from byte 20 on
-module _ (z : Size) {i low high : ℕ} (r : BothRange i (size (width_is z)) low high) where
-  pub two-within : (k : ℕ) → k ≤ 12 → BothRange (i + k) 8 low high
-  two-within k h = within r k 8 (omega (arith, (width-range z).0))
-
-  pub two-behind : z ≡ TwentyEight → BothRange (i + 20) 8 low high
-  two-behind e = within r 20 8 (rw e (omega arith))
-
--- ---- their tests
 
 four-tests : (a b c d : Bool) → a || b || (c || d) ≡ a || (b || (c || (d || false)))
 four-tests a b c d = simp (or_same, or_assoc)

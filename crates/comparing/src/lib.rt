@@ -12,7 +12,7 @@ ghost use Rattle.comparing.specs.Comparisons.{Compares};
 
 use layout::Size;
 use numbers::u32_present;
-use record::{ENGINE, RUN_IN, kind_of, record_at};
+use record::{Kind, kind_of, record_at};
 
 // What is found between two sheets: 27, and 28 where 27 is not.
 #[derive(Drop)]
@@ -21,47 +21,35 @@ pub struct Comparison {
     pub crosses: bool,
 }
 
-// The numbers in the four bytes from i on are not the same, where they have to be, or else the low sheet's is above the high one's.
-fn disagree_at(low: &[u8], high: &[u8], i: usize, same: bool) -> bool
+// The numbers in the four bytes from i on are not the same, where they have to be, or else the low sheet's is above the high one's. Which of
+// the two is asked is a constant, here and below: with one function for both tests the compiler left it outside the loop.
+fn disagree_at<const SAME: bool>(low: &[u8], high: &[u8], i: usize) -> bool
     requires { BothRange i 4 (length low.now) (length high.now) }
-    ensures { result ≡ disagree same (four low.now i) (four high.now i) }
+    ensures { result ≡ disagree SAME (four low.now i) (four high.now i) }
 {
     let a = u32_present(low, i);
     let b = u32_present(high, i);
-    if same { a != b } else { b < a }
+    if SAME { a != b } else { b < a }
 }
 
 // These numbers, or those behind them.
-fn either_disagrees(low: &[u8], high: &[u8], i: usize, same: bool) -> bool
+fn either_disagrees<const SAME: bool>(low: &[u8], high: &[u8], i: usize) -> bool
     requires { BothRange i 8 (length low.now) (length high.now) }
-    ensures { result ≡ either_disagrees_lem low.now high.now same i }
+    ensures { result ≡ either_disagrees_lem low.now high.now SAME i }
 {
-    disagree_at(low, high, i, same) | disagree_at(low, high, i + 4, same)
+    disagree_at::<SAME>(low, high, i) | disagree_at::<SAME>(low, high, i + 4)
 }
 
-// Some number behind the first four bytes of the record that starts at byte `at` is not the same in both.
-fn any_differs(size: Size, low: &[u8], high: &[u8], at: usize) -> bool
+// Some number behind the first four bytes of the record that starts at byte `at`.
+fn any_disagrees<const SAME: bool>(size: Size, low: &[u8], high: &[u8], at: usize) -> bool
     requires { BothRange at (rules.size (width_is size)) (length low.now) (length high.now) }
-    ensures { result ≡ any_disagrees (width_is size) low.now high.now true at }
+    ensures { result ≡ any_disagrees (width_is size) low.now high.now SAME at }
 {
-    let four = either_disagrees(low, high, at + 4, true)
-        | either_disagrees(low, high, at + 12, true);
+    let four = either_disagrees::<SAME>(low, high, at + 4)
+        | either_disagrees::<SAME>(low, high, at + 12);
     match size {
         Size::Twenty => four,
-        Size::TwentyEight => four | either_disagrees(low, high, at + 20, true),
-    }
-}
-
-// Some of the low sheet's is above the high one's. A function of its own: with one for both tests the compiler left it outside the loop.
-fn any_crosses(size: Size, low: &[u8], high: &[u8], at: usize) -> bool
-    requires { BothRange at (rules.size (width_is size)) (length low.now) (length high.now) }
-    ensures { result ≡ any_disagrees (width_is size) low.now high.now false at }
-{
-    let four = either_disagrees(low, high, at + 4, false)
-        | either_disagrees(low, high, at + 12, false);
-    match size {
-        Size::Twenty => four,
-        Size::TwentyEight => four | either_disagrees(low, high, at + 20, false),
+        Size::TwentyEight => four | either_disagrees::<SAME>(low, high, at + 20),
     }
 }
 
@@ -75,19 +63,16 @@ fn compare_records(size: Size, low: &[u8], high: &[u8], run_in: bool, start: usi
     let n = size.records_in(low.len());
     let mut differs = false;
     let mut crosses = false;
-    let mut at: usize = 0;
-    let mut k: usize = 0;
-    while k < n {
-        let first = at;
+    for k in 0..n {
+        let first = size.bytes() * k;
         let kind = low[first] as u32;
-        let same = (run_in & (k == start)) | ((kind != ENGINE) & (kind != RUN_IN));
-        at += size.bytes();
-        k += 1;
-        differs = differs | disagree_at(low, high, first, true);
+        let same = (run_in & (k == start))
+            | ((kind != Kind::Engine as u32) & (kind != Kind::RunIn as u32));
+        differs = differs | disagree_at::<true>(low, high, first);
         if same {
-            differs = differs | any_differs(size, low, high, first);
+            differs = differs | any_disagrees::<true>(size, low, high, first);
         } else {
-            crosses = crosses | any_crosses(size, low, high, first);
+            crosses = crosses | any_disagrees::<false>(size, low, high, first);
         }
     }
     Comparison { differs, crosses }
@@ -100,6 +85,6 @@ pub fn compare(size: Size, low: &[u8], high: &[u8], start: usize) -> Comparison
     requires { CompareRange (width_is size) low.now high.now start }
     ensures { Compares (width_is size) low.now high.now result }
 {
-    let run_in = kind_of(record_at(size, low, start - 1)) == RUN_IN;
+    let run_in = kind_of(record_at(size, low, start - 1)) == Kind::RunIn as u32;
     compare_records(size, low, high, run_in, start)
 }

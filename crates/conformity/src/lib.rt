@@ -18,19 +18,19 @@ use checking::Refusal;
 use declared_value::{Approval, approve};
 use judging_ranges::{Range, judge_range};
 use layout::Size;
-use outcomes::Outcome;
 
 // "gets number × 256 + record"
-fn code(outcome: Outcome) -> u32
+fn code(outcome: Result<(), Refusal>) -> u32
     ensures { result ≡ rules.code (outcome_is outcome) }
 {
     match outcome {
-        Outcome::Done => 0,
-        Outcome::Refused(refusal) => refusal.code(),
+        Ok(()) => 0,
+        Err(refusal) => refusal.code(),
     }
 }
 
 // uint32_t conformity_append(uint8_t *buffer, size_t buffer_length, size_t used, const uint8_t *record, size_t record_length)
+#[tactic(auto, unfolding(rules::specs::Sizes::append_sized, rules::specs::Sizes::appended_sized))]
 #[unsafe(no_mangle)]
 pub extern "C" fn conformity_append(buffer: &mut [u8], used: usize, record: &[u8]) -> u32
     ensures value { result ≡ rules.code (rules.append pollutants buffer.old used «record».now) }
@@ -40,6 +40,7 @@ pub extern "C" fn conformity_append(buffer: &mut [u8], used: usize, record: &[u8
 }
 
 // uint32_t conformity_report(const uint8_t *sheet, size_t sheet_length, uint8_t *output, size_t output_length)
+#[tactic(auto, unfolding(rules::specs::Sizes::report_sized, rules::specs::Sizes::reported_sized))]
 #[unsafe(no_mangle)]
 pub extern "C" fn conformity_report(sheet: &[u8], output: &mut [u8]) -> u32
     ensures value { result ≡ rules.code (rules.report pollutants sheet.now output.old) }
@@ -108,22 +109,22 @@ pub extern "C" fn conformity_range(
     ensures engine_after { engine.new ≡ ranges.engine_after_lem (ranges.range_sized size squarings low.now high.now) engine.old }
 {
     match judge_range(size, low, high) {
-        Range::PassesSurely(n) => {
+        Ok(Range::PassesSurely(n)) => {
             *answer = 1;
             *engine = n as u32;
             0
         }
-        Range::FailsSurely(n) => {
+        Ok(Range::FailsSurely(n)) => {
             *answer = 2;
             *engine = n as u32;
             0
         }
-        Range::Depends => {
+        Ok(Range::Depends) => {
             *answer = 0;
             *engine = 0;
             0
         }
-        Range::Refused(refusal) => refusal.code(),
+        Err(refused) => refused.code(),
     }
 }
 
@@ -140,16 +141,16 @@ pub extern "C" fn conformity_declared(
     ensures divisor_after { divisor.new ≡ approval.divisor_after_lem (approval.approve declared tests.now) divisor.old }
 {
     match approve(declared, tests) {
-        Approval::Another => {
+        Ok(Approval::Another) => {
             *sum = 0;
             *divisor = 0;
             0
         }
-        Approval::Value { sum: total, count } => {
+        Ok(Approval::Value { sum: total, count }) => {
             *sum = total;
             *divisor = count;
             0
         }
-        Approval::Refused(number) => Refusal::of_no_record(number).code(),
+        Err(reason) => Refusal::from(reason).code(),
     }
 }

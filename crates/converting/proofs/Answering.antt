@@ -108,3 +108,9 @@ module _ (b o : List ℕ) where
         carried h q =
             let d : answer s ≡ accepted = asked ∙ (rw (a, le-ltb (length o) (length form) (rw form-length h)) refl) in
             (sym d, rw (d, se, form-is z) q)
+
+-- ---- the zeros of a record are few
+
+pub added-most : (z : Size) → added_bytes_lem z ≤ 8
+added-most Twenty = omega arith
+added-most TwentyEight = omega arith

@@ -1,5 +1,5 @@
 -- What the converter's loop writes, both ways: of each record the first 20 bytes, and zeros.
-use Rattle.std.specs.Prelude.{ℕ, ◌+◌, ◌-◌, ◌*◌, ◌/◌, ◌%◌, ◌≤◌, ◌≡◌, List, ◌++◌, length, take, drop}
+use Rattle.std.specs.Prelude.{ℕ, ◌+◌, ◌-◌, ◌*◌, ◌/◌, ◌%◌, ◌≤◌, ◌≡◌, List, length}
 use Rattle.rules.specs.Sheet.{pollutants, more_pollutants, size}
 use Rattle.sizes.specs.Recast.{recast_record, mapped}
 use Rattle.layout.specs.declared.Size.{Size}
@@ -10,19 +10,11 @@ abbrev pub added_bytes_lem : Size → ℕ
 added_bytes_lem Twenty = size more_pollutants - size pollutants
 added_bytes_lem TwentyEight = 0
 
--- the bytes o with the part p from `at` on
-abbrev pub put_at : (o : List ℕ) → (at : ℕ) → (p : List ℕ) → List ℕ
-put_at o at p = take at o ++ (p ++ drop (at + length p) o)
-
 -- the records of w pollutants of the bytes b, each with its first 20 bytes and e zeros
 abbrev pub recast : (w e : ℕ) → List ℕ → List ℕ
 recast w e b = mapped w (recast_record pollutants e) b
 
 -- ---- ranges
-
--- n bytes from `at` on, of so many
-pub record PutRange (at n room : ℕ) : Type 0 where
-  pub fits : at + n ≤ room
 
 -- whole records of a size that there is, and room for as many of the other
 pub record RecastRange (w e : ℕ) (sheet output : List ℕ) : Type 0 where

@@ -1,6 +1,7 @@
 -- What corrects a column, by whether the record before the first engine's is one of run-in values; and products compared by a quotient.
 use Rattle.arithmetic.proofs.Basics.{ℕ, zero, suc, ◌-◌, ◌*◌, ◌/◌, ◌≤◌, arith, ◌≡◌, refl, sym, ap, ◌∙◌, false, List, [], ◌∷◌, eqb, length, get_or, take, add-zero}
-use Rattle.arithmetic.proofs.Basics.{ltb, ltb-true, lt-ltb, le-ltb, never, by-test}
+use Rattle.std.proofs.Common.{min}
+use Rattle.arithmetic.proofs.Basics.{⊎_elim, lt-or-ge, ltb, ltb-true, lt-ltb, le-ltb, never, by-test}
 use native.Mathlib.Nat.{div-lt_iff_lt-mul, mul-div_cancel}
 use Rattle.rules.specs.Logarithm.{greatest}
 use Rattle.rules.specs.Sheet.{Record, run_in_kind, records, kind, measurement}
@@ -9,7 +10,7 @@ use Rattle.accepted.specs.Sheets.{record_at_lem, run_ins_in, engines_in}
 use Rattle.accepted.proofs.Ranges.{InRange, measurements-in, run-in-values-in}
 use Rattle.accepted.proofs.Sheets.{clean, run-in-is, engine-is}
 use Rattle.logarithm.specs.Four.{Measured}
-use Rattle.corrections.specs.Corrections.{CorrectionRange, Corrects}
+use Rattle.corrections.specs.Corrections.{CorrectionRange, correction_in}
 
 -- every row has the same correction, for the first engine is the first of every row's
 pub each_row : (vs es : List Record) (p n : ℕ) → 1 ≤ n → correction vs (take n es) p ≡ correction vs es p
@@ -22,14 +23,19 @@ first-in : (p : ℕ) (es : List Record) → 1 ≤ length es → InRange p es →
 first-in p [] h r = absurd (omega arith)
 first-in p (e ∷ es) h r = (r.0, r.1)
 
+-- the correction has these numbers, and they are in range
+pub record CorrectedBy (w : ℕ) (b : List ℕ) (p x y : ℕ) : Type 0 where
+  pub is : correction_in w b p ≡ record { value = x; first = y }
+  pub value : Measured x
+  pub first : Measured y
+
 module _ {w : ℕ} {b : List ℕ} {start p : ℕ} (range : CorrectionRange w b start p) where
   -- the first engine's record
   first-is : get_or (engines_in w b) 0 [] ≡ record_at_lem w b start
   first-is = engine-is range.sheet 0 (omega (arith, range.tested)) ∙ ap (record_at_lem w b) (add-zero start)
 
   pub run_in : {k x y : ℕ} → k ≡ kind (record_at_lem w b (start - 1)) → k ≡ run_in_kind
-      → x ≡ measurement (record_at_lem w b (start - 1)) p → y ≡ measurement (record_at_lem w b start) p
-      → Corrects w b p (record { value = x; first = y })
+      → x ≡ measurement (record_at_lem w b (start - 1)) p → y ≡ measurement (record_at_lem w b start) p → CorrectedBy w b p x y
   run_in i e ex ey =
       let v : run_ins_in w b ≡ record_at_lem w b (start - 1) ∷ [] = rw (← i, e) at (run-in-is range.sheet) in
       let c = clean range.sheet in
@@ -41,7 +47,7 @@ module _ {w : ℕ} {b : List ℕ} {start p : ℕ} (range : CorrectionRange w b s
         first = rw first-is at (first-in p (engines_in w b) range.tested (measurements-in w (records w b) c p range.declared));
       })
 
-  pub plain : {k : ℕ} → k ≡ kind (record_at_lem w b (start - 1)) → eqb k run_in_kind ≡ false → Corrects w b p (record { value = 1; first = 1 })
+  pub plain : {k : ℕ} → k ≡ kind (record_at_lem w b (start - 1)) → eqb k run_in_kind ≡ false → CorrectedBy w b p 1 1
   plain i e =
       let v : run_ins_in w b ≡ [] = rw (← i, e) at (run-in-is range.sheet) in
       record { is = rw v refl; value = (omega arith, omega arith); first = (omega arith, omega arith) }
@@ -68,3 +74,9 @@ most-is-quotient a v x h e = rw e (quotient a v x h)
 pub most-is-greatest : (a v x : ℕ) → 1 ≤ v → greatest ≤ a / v → x ≤ greatest → ltb greatest x ≡ ltb a (x * v)
 most-is-greatest a v x h l k =
     le-ltb greatest x k ∙ sym (sym (quotient a v x h) ∙ le-ltb (a / v) x (omega arith))
+
+-- the least of the two
+pub most-is-least : (a v x : ℕ) → 1 ≤ v → x ≤ greatest → ltb (min (a / v) greatest) x ≡ ltb a (x * v)
+most-is-least a v x h k =
+    ⊎_elim (λ l. most-is-quotient a v x h (omega (arith, l)))
+    (λ l. let e : min (a / v) greatest ≡ greatest = omega (arith, l) in rw e (most-is-greatest a v x h l k)) (lt-or-ge (a / v) greatest)

@@ -5,8 +5,7 @@ use Rattle.rules.specs.Sheet.{records, plan_number, declares}
 use Rattle.rules.specs.Plans.{plan_of}
 use Rattle.rules.specs.Series.{correction}
 use Rattle.accepted.specs.Sheets.{pollutants_in, run_ins_in, engines_in, AcceptedSheet}
-use Rattle.logarithm.specs.Four.{Measured}
-use Rattle.corrections.specs.declared.Correction.{Correction}
+use Rattle.corrections.specs.declared.factors.Correction.{Correction}
 
 abbrev pub correction_is : Correction → rules.Correction
 correction_is c = record { value = c.value; first = c.first }
@@ -21,14 +20,6 @@ pub record CorrectionRange (w : ℕ) (b : List ℕ) (start p : ℕ) : Type 0 whe
   pub declared : declares (pollutants_in w b) p ≡ true
   pub tested : 1 ≤ length (engines_in w b)
 
--- the program's is that correction, and its numbers are in range
-pub record Corrects (w : ℕ) (b : List ℕ) (p : ℕ) (c : Correction) : Type 0 where
-  pub is : correction_in w b p ≡ correction_is c
-  pub value : Measured c.value
-  pub first : Measured c.first
-
--- a limit and a correction in range
-pub record InRange (L : ℕ) (c : Correction) : Type 0 where
-  pub limit : Measured L
-  pub value : Measured c.value
-  pub first : Measured c.first
+-- the program's is that correction
+abbrev pub Corrects : (w : ℕ) → List ℕ → (p : ℕ) → Correction → Type 0
+Corrects w b p c = correction_in w b p ≡ correction_is c

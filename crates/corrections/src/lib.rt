@@ -4,19 +4,16 @@
 ghost use Rattle.std.specs.Prelude.{◌≡◌, ℕ, ◌*◌, ◌≤◌, ltb};
 ghost use Rattle.rules.specs.Logarithm.{greatest, squarings, g};
 ghost use Rattle.layout.specs.Sizes.{width_is};
-ghost use Rattle.corrections.specs.Corrections.{CorrectionRange, Corrects, InRange};
+ghost use Rattle.logarithm.specs.Four.{Measured};
+ghost use Rattle.corrections.specs.Corrections.{CorrectionRange, Corrects};
 
+pub mod factors;
+
+pub use factors::Correction;
 use layout::Size;
 use logarithm::log2;
-use record::{RUN_IN, kind_of, measurement_at, measurement_of, record_at};
+use record::{Kind, kind_of, measurement_at, measurement_of, record_at};
 use values::GREATEST;
-
-// The pollutant's value after running-in, and the first engine's measurement; 1 and 1 on a sheet without running-in.
-#[derive(Clone, Copy)]
-pub struct Correction {
-    pub value: u32,
-    pub first: u32,
-}
 
 // The correction of a declared pollutant. The run-in values, if there are any, stand right before the first engine's record, which is the one at `start`.
 // For `statistics` alone, with a sheet that the check accepts and that has an engine: so it may require.
@@ -25,7 +22,7 @@ pub fn correction_of(size: Size, bytes: &[u8], start: usize, number: u32) -> Cor
     ensures { Corrects (width_is size) bytes.now number result }
 {
     let r = record_at(size, bytes, start - 1);
-    if kind_of(r) == RUN_IN {
+    if kind_of(r) == Kind::RunIn as u32 {
         Correction {
             value: measurement_of(r, number),
             first: measurement_at(size, bytes, start, number),
@@ -37,20 +34,16 @@ pub fn correction_of(size: Size, bytes: &[u8], start: usize, number: u32) -> Cor
 
 // "attributes compare x_j × value with L × x_1": the most that a measurement may be which is not counted, L × x_1 / value, or the greatest measurement
 // where that is less. Where value and x_1 are equal, as they are without running-in, it is the limit: nothing is divided.
-// For `statistics` alone, with a limit and a correction in range: so it may require.
+// For `statistics` alone, with a limit in range: so it may require.
 pub fn most_uncounted(limit: u32, correction: Correction) -> u32
-    requires { InRange limit correction }
+    requires { Measured limit }
     ensures { (x : ℕ) → x ≤ greatest → ltb result x ≡ ltb (limit * correction.first) (x * correction.value) }
 {
     if correction.value == correction.first {
         return limit;
     }
-    let most = limit as u64 * correction.first as u64 / correction.value as u64;
-    if GREATEST as u64 <= most {
-        GREATEST
-    } else {
-        most as u32
-    }
+    let most = u64::from(limit) * u64::from(correction.first) / u64::from(correction.value);
+    most.min(u64::from(GREATEST)) as u32
 }
 
 // g of a number of a correction. Without running-in that is 1, whose logarithm is 0: nothing is squared.

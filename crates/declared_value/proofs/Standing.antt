@@ -1,10 +1,9 @@
--- Laws of the definition: what the first two tests say of the declared value, the sum of three, values in range, and where nothing is
--- refused.
+-- Laws of the definition: what the first two tests say of the declared value, the sum of three, how many tests there are, and where nothing
+-- is refused.
 use Rattle.arithmetic.proofs.Basics.{ℕ, zero, suc, ◌+◌, ◌*◌, ◌≤◌, arith, ◌≡◌, refl, sym, ◌∙◌, ap₂}
 use Rattle.arithmetic.proofs.Basics.{Bool, false, ◌&&◌, ◌||◌, leb, List, [], ◌∷◌, length, get_or, take}
-use Rattle.arithmetic.proofs.Basics.{le-ltb, le-leb, in-range, or-false, or_same}
-use Rattle.rules.specs.Tools.{any, sum}
-use Rattle.rules.specs.Logarithm.{greatest, outside}
+use Rattle.arithmetic.proofs.Basics.{le-ltb, le-leb, in-range, or_same}
+use Rattle.rules.specs.Tools.{sum}
 use Rattle.rules.specs.DeclaredValue.{most_tests, mean_fits, stands, decided, bad_count, bad_value_lem, after_decision, approve}
 
 -- ---- the sums of one, two and three tests, by their places
@@ -58,12 +57,7 @@ stands-is d (suc zero) ts = rw (fits_one d ts) (or_same (one d ts))
 stands-is d (suc (suc k)) ts =
     rw (le-leb 1 (suc (suc k)) (omega arith), le-leb 2 (suc (suc k)) (omega arith)) (sym (no-later d k ts ∙ ap₂ ◌||◌ (fits_one d ts) (fits-two d ts)))
 
--- ---- in range
-
-pub all-inside : (ts : List ℕ) → any outside ts ≡ false → (i : ℕ) → get_or ts i 0 ≤ greatest
-all-inside [] e i = omega arith
-all-inside (a ∷ ts) e zero = (in-range 1 greatest a (or-false (outside a) (any outside ts) e).0).1
-all-inside (a ∷ ts) e (suc i) = all-inside ts (or-false (outside a) (any outside ts) e).1 i
+-- ---- how many tests
 
 pub count-inside : (ts : List ℕ) → bad_count ts ≡ false → (1 ≤ length ts) × (length ts ≤ most_tests)
 unfolding bad_count

@@ -1,5 +1,6 @@
 -- Entering a finding: the refusals in document 02's order, the place of an engine's cause, and the bytes that are written.
-use Rattle.arithmetic.proofs.Basics.{ℕ, ◌+◌, ◌-◌, ◌*◌, ◌/◌, ◌%◌, ◌≤◌, ◌<◌, mul-le-mul, arith, ◌≡◌, refl, sym, ◌∙◌, true, false, not, ◌||◌, cond, List, [], leb, ltb}
+use Rattle.std.specs.Prelude.{Result, Ok, Err}
+use Rattle.arithmetic.proofs.Basics.{ℕ, ◌+◌, ◌-◌, ◌*◌, ◌/◌, ◌%◌, ◌≤◌, ◌<◌, mul-le-mul, arith, ◌≡◌, refl, sym, ap, ◌∙◌, true, false, not, ◌||◌, cond, List, [], leb, ltb}
 use Rattle.arithmetic.proofs.Basics.{eqb, length, get_or, set, get_or-eq_default, eqb-true, eqb-false, ne_eqb, le-leb, lt-leb, ltb-true, ltb-false, leb-true, leb-false}
 use Rattle.arithmetic.proofs.Basics.{or-false, by-test}
 use Rattle.rules.specs.Tools.{within}
@@ -8,14 +9,16 @@ use Rattle.rules.specs.Refusals.{Check, accepted, refused, greatest_cause, check
 use Rattle.rules.specs.Findings.{no_pending, enter, put_two, entered, enter_sized, entered_sized}
 use Rattle.accepted.specs.Sheets.{record_at_lem, engines_in}
 use Rattle.accepted.proofs.Sheets.{engine-is, few, inside, record-inside}
+use Rattle.refusals.specs.declared.Reason.{Reason}
 use Rattle.layout.specs.declared.Size.{Size}
-use Rattle.layout.specs.declared.Named.{Named}
-use Rattle.layout.specs.declared.Named.TheVariants.{Known, Unknown}
 use Rattle.layout.specs.Sizes.{width_is, name_of}
-use Rattle.layout.proofs.Sizes.{width-range, known-size, unknown-size}
+use Rattle.layout.proofs.Sizes.{width-range, known-size, unknown-size, why-unknown}
 use Rattle.summary.specs.declared.Summary.{Summary}
-use Rattle.checking.specs.Check.{Valid}
-use Rattle.checking.proofs.Laws.{accepted-so, engines-are}
+use Rattle.checking.specs.declared.Refusal.{Refusal}
+use Rattle.checking.specs.Check.{refusal_of, checked_of, Valid}
+use Rattle.outcomes.specs.Outcomes.{outcome_is, check_is}
+use Rattle.outcomes.proofs.Kept.{kept, kept_by}
+use Rattle.checking.proofs.Laws.{refused-sheet, accepted-so, engines-are}
 use Rattle.entering.specs.Engines.{cause_of_lem}
 
 -- "finding not 1 to 65,534", as the program asks for it
@@ -118,23 +121,38 @@ module _ (z : Size) (b : List ℕ) (n x : ℕ) where
       pub bad-finding : eqb x 0 || leb pending x ≡ true → enter (width_is z) b n x ≡ refused 24 0
       bad-finding f = found ∙ (rw f refl)
 
+      -- the two bytes of a number of 16 bits
       pub wrote : eqb x 0 || leb pending x ≡ false → let at = size (width_is z) * (said.head + (n - 1)) + 2 in
-          (accepted ≡ enter (width_is z) b n x) × (set (set b at (x % 256)) (at + 1) (x / 256) ≡ entered (width_is z) b n x)
+          (accepted ≡ enter (width_is z) b n x) × (set (set b at (x % 256)) (at + 1) (x / 256 % 256) ≡ entered (width_is z) b n x)
       unfolding entered put_two
-      wrote f = let d : enter (width_is z) b n x ≡ accepted = found ∙ (rw f refl) in (sym d, rw (d, ← (accepted-so v).starts) refl)
+      wrote f =
+          let d : enter (width_is z) b n x ≡ accepted = found ∙ (rw f refl) in
+          let h : x / 256 % 256 ≡ x / 256 = omega (arith, below-pending x f) in
+          (sym d, rw (d, h, ← (accepted-so v).starts) refl)
 
 -- ---- by the size that a caller names
 
-module _ (s : ℕ) (b : List ℕ) (n x : ℕ) {name : Named} (e : name ≡ name_of s) where
-  pub enter-unknown : name ≡ Unknown → enter_sized s b n x ≡ refused 30 0
-  unfolding enter_sized
-  enter-unknown k = sym (unknown-size s e k _ (λ w. enter w b n x))
-
-  pub entered-unknown : name ≡ Unknown → b ≡ entered_sized s b n x
-  unfolding entered_sized
-  entered-unknown k = unknown-size s e k b (λ w. entered w b n x)
-
-  pub enter-known : {z : Size} → name ≡ Known z → {a : Check} {held : List ℕ} → (a ≡ enter (width_is z) b n x) × (held ≡ entered (width_is z) b n x)
-      → (a ≡ enter_sized s b n x) × (held ≡ entered_sized s b n x)
+module _ (s : ℕ) (b : List ℕ) (n x : ℕ) {name : Result Size Reason} (e : name ≡ name_of s) where
+  pub enter-unknown : {why : Reason} → name ≡ Err why → {o : Result (Unit {0}) Refusal} → o ≡ Err (refusal_of why)
+      → (outcome_is o ≡ enter_sized s b n x) × (b ≡ entered_sized s b n x)
   unfolding enter_sized entered_sized
-  enter-known k h = (h.0 ∙ known-size s e k _ (λ w. enter w b n x), h.1 ∙ known-size s e k b (λ w. entered w b n x))
+  enter-unknown k q =
+      (rw (q, why-unknown s e k) (unknown-size s e k _ (λ w. enter w b n x)), unknown-size s e k b (λ w. entered w b n x))
+
+  module _ {z : Size} (k : name ≡ Ok z) where
+    pub enter-known : {a : Check} {held : List ℕ} → (a ≡ enter (width_is z) b n x) × (held ≡ entered (width_is z) b n x)
+        → (a ≡ enter_sized s b n x) × (held ≡ entered_sized s b n x)
+    unfolding enter_sized entered_sized
+    enter-known h = (h.0 ∙ known-size s e k _ (λ w. enter w b n x), h.1 ∙ known-size s e k b (λ w. entered w b n x))
+
+    -- a refusal, and the sheet stays as it was
+    pub enter-refused : {f g : Refusal} → f ≡ g → enter (width_is z) b n x ≡ refused g.number g.place
+        → (refused f.number f.place ≡ enter_sized s b n x) × (b ≡ entered_sized s b n x)
+    unfolding entered
+    enter-refused q h = enter-known (kept_by q h _ _)
+
+    -- the sheet's own
+    pub enter-checked : {c : Result Summary Refusal} → c ≡ checked_of z b → {f : Refusal} → c ≡ Err f → {a : Check} → a ≡ check_is c
+        → (a ≡ enter_sized s b n x) × (b ≡ entered_sized s b n x)
+    unfolding entered
+    enter-checked d t q = enter-known (kept (sheet-refused z b n x (refused-sheet z b (sym d ∙ t))) (q ∙ ap check_is t) _ _)

@@ -4,15 +4,24 @@
 ghost use Rattle.std.specs.Prelude.{◌≡◌, suc};
 ghost use Rattle.lines.specs.Writing.{with_bytes, Adds, Written};
 ghost use Rattle.explaining.specs.Sentences.{line_of, sentence};
-ghost use Rattle.explaining.specs.Explanation.{engines_in, name, place, explained};
+ghost use Rattle.explaining.specs.Explanation.{is_engine, engines_in, name, place, explained};
 
-use checking::{Checked, Refusal, check};
+use checking::{Refusal, check};
 use layout::Size;
 use lines::Lines;
-use reading::{Step, turn_at};
+use reading::{Step, step_at};
 
 // The refusal of a sheet's length, which names no record.
 const LENGTH: u8 = 1;
+
+fn is_engine(step: Step) -> u32
+    ensures { result ≡ is_engine step }
+{
+    match step {
+        Step::Engine { .. } => 1,
+        _ => 0,
+    }
+}
 
 // How many of the records up to this one, it among them, are engines: the sheet is walked from its start.
 fn engines_through(sheet: &[u8], record: u8) -> u32
@@ -20,15 +29,8 @@ fn engines_through(sheet: &[u8], record: u8) -> u32
 {
     let last = record as usize;
     let mut engines: u32 = 0;
-    let mut k: usize = 0;
-    while k <= last {
-        let turn = turn_at(Size::TWENTY, sheet, k);
-        let step = turn.step;
-        k += 1;
-        match step {
-            Step::Engine { .. } => engines += 1,
-            _ => {}
-        }
+    for k in 0..=last {
+        engines += is_engine(step_at(Size::TWENTY, sheet, k));
     }
     engines
 }
@@ -56,8 +58,7 @@ fn with_place(lines: Lines, sheet: &[u8], refusal: Refusal) -> Lines
         return lines;
     }
     let record = refusal.place;
-    let turn = turn_at(Size::TWENTY, sheet, record as usize);
-    let step = turn.step;
+    let step = step_at(Size::TWENTY, sheet, record as usize);
     let engine = engines_through(sheet, record);
     let lines = lines
         .with_word(b"record ")
@@ -72,10 +73,7 @@ fn with_line(lines: Lines, text: &[u8], number: u8) -> Lines
 {
     let mut lines = lines;
     let mut before = number;
-    let mut i: usize = 0;
-    while i < text.len() {
-        let byte = text[i];
-        i += 1;
+    for &byte in text {
         if before == 0 {
             if byte == b'\n' {
                 return lines;
@@ -122,8 +120,7 @@ fn with_sentence(lines: Lines, number: u8) -> Lines
 pub fn explain(sheet: &[u8]) -> Lines
     ensures { Written result (explained sheet.now) }
 {
-    let checked = check(Size::TWENTY, sheet);
-    let Checked::Refused(refusal) = checked else {
+    let Err(refusal) = check(Size::TWENTY, sheet) else {
         return Lines::nothing();
     };
     let lines = Lines::nothing().with_word(b"verdict: ");

@@ -13,7 +13,8 @@ use Rattle.accepted.proofs.Engines.{heading-parts, counts}
 use Rattle.accepted.proofs.ByNumber.{limit_of_lem, InOrder, in_order, declared-one, declared-other, newest-snoc, limit-most}
 use Rattle.layout.specs.declared.Size.{Size}
 use Rattle.layout.specs.Sizes.{width_is}
-use Rattle.record.specs.Quantities.{quantity, quantities_with}
+use Rattle.record.specs.Quantities.{quantity}
+use Rattle.pollutants.specs.Each.{with_lem}
 use Rattle.layout.proofs.Sizes.{width-range}
 use Rattle.summary.specs.declared.Summary.{Summary}
 use Rattle.summary.specs.State.{nothing, summary_with, misplaces_others_lem, misplaces_run_in_lem, LimitRange, Limits}
@@ -335,7 +336,7 @@ module _ {z : Size} {before : List Record} {s : Summary} (a : Agrees z before s)
   begun e = a.empty_is ∙ not_first before r f.placed e
 
   limits-more : (p : ℕ) → eqb (kind r) pollutant_kind ≡ true
-      → quantity (quantities_with s.limits (number r) (limit r)) p ≡ limit_of_lem p (declared (before ++ (r ∷ [])))
+      → quantity (with_lem s.limits (number r) (limit r)) p ≡ limit_of_lem p (declared (before ++ (r ∷ [])))
   unfolding pollutant declared of_kind
   limits-more p e =
       let o : InOrder (width_is z) 0 (declared before ++ (pollutant r ∷ [])) = rw (declared-one before r e) at (in_order (width_is z) [] (before ++ (r ∷ [])) clean-more) in
@@ -368,7 +369,7 @@ module _ {z : Size} {before : List Record} {s : Summary} (a : Agrees z before s)
             (λ e. rw (declared-other before r e) a.number_is);
         limit_is =
             λ p.
-            by-test (λ t. quantity (cond t (quantities_with s.limits (number r) (limit r)) s.limits) p ≡ limit_of_lem p (declared all)) is_one
+            by-test (λ t. quantity (cond t (with_lem s.limits (number r) (limit r)) s.limits) p ≡ limit_of_lem p (declared all)) is_one
             (limits-more p) (λ e. rw (declared-other before r e) (a.limit_is p));
         pollutants_is =
             rw (a.pollutants_is, length-map (of_kind pollutant_kind before) pollutant, length-map (of_kind pollutant_kind all) pollutant)

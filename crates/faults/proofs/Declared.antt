@@ -5,11 +5,12 @@ use Rattle.rules.specs.Tools.{any}
 use Rattle.rules.specs.Sheet.{Record, Pollutant, pollutants, more_pollutants, measurement, volume, speed, date, numbers, declares, gross}
 use Rattle.rules.specs.Refusals.{particulate_limit_lem, particulates, bad_particulate_lem, bad_value_lem, bad_measurement_lem}
 use Rattle.accepted.proofs.ByNumber.{limit_of_lem, InOrder, in-numbers}
-use Rattle.record.specs.declared.Quantities.{Quantities}
+use Rattle.pollutants.specs.declared.Each.{Each}
 use Rattle.layout.specs.declared.Size.{Size}
 use Rattle.layout.specs.declared.Size.TheVariants.{Twenty, TwentyEight}
 use Rattle.layout.specs.Sizes.{width_is}
-use Rattle.record.specs.Quantities.{quantity, quantities_with}
+use Rattle.record.specs.Quantities.{quantity}
+use Rattle.pollutants.specs.Each.{with_lem}
 use Rattle.small_engines.specs.SmallEngines.{bad_particulate_by}
 use Rattle.measurements.specs.Measurements.{bad_measurement_by, bad_behind_lem}
 use Rattle.gross_emitters.specs.GrossEmitters.{exceeds, gross_by}
@@ -24,9 +25,9 @@ pub zero-quantity : (p : ℕ) → quantity (record { co = 0; hc = 0; nox = 0; pm
 unfolding quantity
 zero-quantity p = simp cond_same
 
-module _ (n x : ℕ) (l : 1 ≤ n) (u : n ≤ more_pollutants) (q : Quantities) where
-  pub quantity-with : (p : ℕ) → quantity (quantities_with q n x) p ≡ cond (eqb n p) x (quantity q p)
-  unfolding quantity quantities_with
+module _ (n x : ℕ) (l : 1 ≤ n) (u : n ≤ more_pollutants) (q : Each ℕ) where
+  pub quantity-with : (p : ℕ) → quantity (with_lem q n x) p ≡ cond (eqb n p) x (quantity q p)
+  unfolding quantity with_lem
   quantity-with zero = rw (ne_eqb n 0 (λ z. omega arith)) refl
   quantity-with (suc zero) = refl
   quantity-with (suc (suc zero)) = refl
@@ -112,7 +113,7 @@ four-tests a b c d = simp or_assoc
 six-tests : (a b c d e f : Bool) → a || (b || (c || (d || (e || (f || false))))) ≡ a || b || c || d || (e || f)
 six-tests a b c d e f = simp (or_same, or_assoc)
 
-module _ (ps : List Pollutant) (q : Quantities) (l : (p : ℕ) → quantity q p ≡ limit_of_lem p ps) (r : Record) where
+module _ (ps : List Pollutant) (q : Each ℕ) (l : (p : ℕ) → quantity q p ≡ limit_of_lem p ps) (r : Record) where
   pub measurement-agrees : (z : Size) → InOrder (width_is z) 0 ps → bad_measurement_by q r || bad_behind_lem z q r ≡ bad_measurement_lem (width_is z) ps r
   unfolding bad_measurement_lem bad_measurement_by quantity
   measurement-agrees Twenty h =

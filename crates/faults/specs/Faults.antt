@@ -21,6 +21,16 @@ engine_fault_lem z s r =
     (cond (leb s.last_row s.engines) 10
     (cond (engine_unused r) 12 0)))))
 
+-- the same with another number in place of 9
+unfoldable pub engine_fault_by : Size → Summary → Record → (cause : ℕ) → ℕ
+engine_fault_by z s r n =
+    cond (misplaces_others_lem s) 3
+    (cond (bad_measurement_by s.limits r) 8
+    (cond (bad_behind_lem z s.limits r) 8
+    (cond (bad_cause_by z s r) n
+    (cond (leb s.last_row s.engines) 10
+    (cond (engine_unused r) 12 0)))))
+
 -- 19 of run-in values, behind 3; else what is said of an engine, and 12 for a cause
 abbrev pub as_twelve : (n : ℕ) → ℕ
 as_twelve n = cond (eqb n 9) 12 n

@@ -24,24 +24,9 @@ pub record Logs (logs : List ℕ) (w : ℕ) (b : List ℕ) (start p rows n : ℕ
   pub room : length logs ≡ 4
   pub each : (k : ℕ) → (k + 1) / 4 ≡ n / 4 → k < rows → get_or logs ((k + 1) % 4) 0 ≡ g squarings (measured_at w b start p k)
 
--- ---- ranges
-
 -- the engines of all rows lie in the bytes and have a measurement of the pollutant, and their measurements are 1 to 9,999,999
 pub record MeasuredRange (w : ℕ) (b : List ℕ) (start p rows : ℕ) : Type 0 where
   pub column : p ≤ w
   pub inside : size w * (start + rows) ≤ length b
   pub few : start + rows < 1000
   pub measures : (i : ℕ) → i < rows → Measured (measured_at w b start p i)
-
--- the same, memory for four numbers, a number to begin with, and how many engines stand before the next
-pub record FourRange (logs : List ℕ) (first w : ℕ) (b : List ℕ) (start p rows i : ℕ) : Type 0 where
-  pub room : length logs ≡ 4
-  pub number : Measured first
-  pub all : MeasuredRange w b start p rows
-  pub some : i ≤ rows
-
--- the same where the memory holds the four of row i, and there is one row more
-pub record NextRange (logs : List ℕ) (w : ℕ) (b : List ℕ) (start p rows i : ℕ) : Type 0 where
-  pub last : Logs logs w b start p rows i
-  pub all : MeasuredRange w b start p rows
-  pub some : i < rows

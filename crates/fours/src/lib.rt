@@ -2,80 +2,59 @@
 // For `statistics` alone, with a column of an accepted sheet: so they may require.
 #![tactic(auto)]
 
-ghost use Rattle.std.specs.Prelude.{◌≡◌, ◌+◌};
-ghost use Rattle.layout.specs.Sizes.{width_is};
-ghost use Rattle.fours.specs.Fours.{measured_or, four_from, Logs};
-ghost use Rattle.fours.specs.Fours.{MeasuredRange, FourRange, NextRange};
+ghost use Rattle.std.specs.Prelude.{◌≡◌, ◌+◌, ◌<◌, ◌≤◌};
+ghost use Rattle.logarithm.specs.Four.{Measured};
+ghost use Rattle.fours.specs.Columns.{measured_in, four_in, LogsIn};
 
-use layout::Size;
-use logarithm::{Four, log2, log2_four};
+pub mod measured;
+
+use logarithm::{log2, log2_four};
+use measured::MeasuredColumn;
 use record::measurement_at;
 
-// A pollutant's measurement in the engine behind i engines, and behind the rows 1: nothing outside the sheet is read.
-fn measured_or_one(
-    size: Size,
-    bytes: &[u8],
-    start: usize,
-    number: u32,
-    rows: usize,
-    i: usize,
-) -> u32
-    requires { MeasuredRange (width_is size) bytes.now start number rows }
-    ensures { result ≡ measured_or (width_is size) bytes.now start number rows i }
-{
-    if i < rows {
-        measurement_at(size, bytes, start + i, number)
-    } else {
-        1
+impl MeasuredColumn<'_> {
+    // The measurement in the engine behind i engines, and behind the rows 1: nothing outside the sheet is read.
+    #[tactic(auto, unfolding(crate::specs::Fours::measured_or))]
+    fn measured_or_one(self, i: usize) -> u32
+        ensures { result ≡ measured_in self.entry i }
+    {
+        if i < self.rows {
+            measurement_at(self.size, self.bytes, self.start + i, self.number)
+        } else {
+            1
+        }
     }
 }
 
-// The logarithms of a number, the limit or an engine's, and of the three engines behind i engines, into lent memory: a struct handed back
-// would be copied as a whole right after its parts are written, and wait for them.
-pub fn put_four(
-    logs: &mut [u32; 4],
-    first: u32,
-    size: Size,
-    bytes: &[u8],
-    start: usize,
-    number: u32,
-    rows: usize,
-    i: usize,
-)
-    requires { FourRange logs.old first (width_is size) bytes.now start number rows i }
-    ensures { logs.new ≡ four_from (width_is size) bytes.now start number first rows i }
+// The logarithms of a number, the limit or an engine's, and of the three engines behind i engines, into lent memory: docs/PROVED.md names the
+// function, and its promise is about that memory; an array handed back takes as long.
+// Inlined by word: otherwise the compiler leaves the call, and a column of three rows takes a tenth longer.
+#[inline(always)]
+pub fn put_four(logs: &mut [u32; 4], first: u32, column: MeasuredColumn, i: usize)
+    requires number { Measured first }
+    requires some { i ≤ column.rows }
+    ensures { logs.new ≡ four_in column.entry first i }
 {
-    let four = log2_four(Four {
-        a: first,
-        b: measured_or_one(size, bytes, start, number, rows, i),
-        c: measured_or_one(size, bytes, start, number, rows, i + 1),
-        d: measured_or_one(size, bytes, start, number, rows, i + 2),
-    });
-    logs[0] = four.a;
-    logs[1] = four.b;
-    logs[2] = four.c;
-    logs[3] = four.d;
+    *logs = log2_four([
+        first,
+        column.measured_or_one(i),
+        column.measured_or_one(i + 1),
+        column.measured_or_one(i + 2),
+    ]);
 }
 
 // The four that row i + 1 stands in, from the one that row i stands in: a new one at every fourth row. An engine that is left alone takes `log2`.
-pub fn four_with(
-    logs: &mut [u32; 4],
-    size: Size,
-    bytes: &[u8],
-    start: usize,
-    number: u32,
-    rows: usize,
-    i: usize,
-)
-    requires { NextRange logs.old (width_is size) bytes.now start number rows i }
-    ensures { Logs logs.new (width_is size) bytes.now start number rows (i + 1) }
+pub fn four_with(logs: &mut [u32; 4], column: MeasuredColumn, i: usize)
+    requires last { LogsIn logs.old column i }
+    requires some { i < column.rows }
+    ensures { LogsIn logs.new column.entry (i + 1) }
 {
     if (i + 1) % 4 == 0 {
-        let x = measured_or_one(size, bytes, start, number, rows, i);
-        if i + 1 == rows {
+        let x = column.measured_or_one(i);
+        if i + 1 == column.rows {
             logs[0] = log2(x);
         } else {
-            put_four(logs, x, size, bytes, start, number, rows, i + 1);
+            put_four(logs, x, column, i + 1);
         }
     }
 }

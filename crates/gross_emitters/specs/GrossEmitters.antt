@@ -6,18 +6,18 @@ use Rattle.rules.specs.Refusals.{greatest_cause}
 use Rattle.rules.specs.Plans.{in_service_lem, number_of}
 use Rattle.layout.specs.declared.Size.{Size}
 use Rattle.layout.specs.declared.Size.TheVariants.{Twenty, TwentyEight}
-use Rattle.record.specs.declared.Quantities.{Quantities}
+use Rattle.pollutants.specs.declared.Each.{Each}
 use Rattle.summary.specs.declared.Summary.{Summary}
 
 -- "2x > 3L", of a declared pollutant
 abbrev pub exceeds : (limit x : ℕ) → Bool
 exceeds limit x = not (eqb limit 0) && ltb (limit + limit / 2) x
 
-abbrev pub exceeds_behind_lem : Size → (limits : Quantities) → Record → Bool
+abbrev pub exceeds_behind_lem : Size → (limits : Each ℕ) → Record → Bool
 exceeds_behind_lem Twenty limits r = false
 exceeds_behind_lem TwentyEight limits r = exceeds limits.fifth (measurement r 5) || exceeds limits.sixth (measurement r 6)
 
-unfoldable pub gross_by : Size → (limits : Quantities) → Record → Bool
+unfoldable pub gross_by : Size → (limits : Each ℕ) → Record → Bool
 gross_by z limits r =
     exceeds limits.co (measurement r 1)
     || exceeds limits.hc (measurement r 2)

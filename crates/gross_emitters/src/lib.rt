@@ -8,7 +8,8 @@ ghost use Rattle.gross_emitters.specs.GrossEmitters.{exceeds, exceeds_behind_lem
 
 use layout::Size;
 use plan::Plan;
-use record::{Quantities, cause_of, measurement_of};
+use pollutants::Each;
+use record::{cause_of, measurement_of};
 use summary::Summary;
 
 // "2x > 3L", of a declared pollutant p: x is above L and half of L, rounded down, which stays within 32 bits.
@@ -20,7 +21,7 @@ fn exceeds(limit: u32, r: &[u8], p: u32) -> bool
 }
 
 // The same for pollutant 5 or 6.
-fn exceeds_behind(size: Size, limits: Quantities, r: &[u8]) -> bool
+fn exceeds_behind(size: Size, limits: Each<u32>, r: &[u8]) -> bool
     requires { Limits limits }
     ensures { result ≡ exceeds_behind_lem size limits r.now }
 {
@@ -31,7 +32,8 @@ fn exceeds_behind(size: Size, limits: Quantities, r: &[u8]) -> bool
 }
 
 // "A gross emitter is a vehicle with 2x > 3L for some pollutant"
-fn is_gross(size: Size, limits: Quantities, r: &[u8]) -> bool
+#[tactic(auto, unfolding(crate::specs::GrossEmitters::gross_by))]
+fn is_gross(size: Size, limits: Each<u32>, r: &[u8]) -> bool
     requires { Limits limits }
     ensures { result ≡ gross_by size limits r.now }
 {
@@ -45,13 +47,16 @@ fn is_gross(size: Size, limits: Quantities, r: &[u8]) -> bool
 // "9, cause": "In plan 4 its cause is 1 to 65,534, any other vehicle's is 0; in plans 1 to 3 cause is 0.", and in plan 5; 02, F-5: 65,535
 // "marks a gross emitter whose finding is pending, and refusal 9 admits it there." So of a gross emitter any number of two bytes but 0.
 // For `faults` alone, which keeps limits in range: so it may require.
+// Inlined: the compiler left it outside the check's loop, which took 1.4 of its time then.
+#[inline(always)]
+#[tactic(auto, unfolding(crate::specs::GrossEmitters::bad_cause_by))]
 pub fn bad_cause(size: Size, s: Summary, r: &[u8]) -> bool
     requires { Limits s.limits }
     ensures { result ≡ bad_cause_by size s r.now }
 {
     let limits = s.limits;
     let cause = cause_of(r);
-    if s.plan != Plan::IN_SERVICE {
+    if s.plan != Plan::InService as u32 {
         return cause != 0;
     }
     if is_gross(size, limits, r) {

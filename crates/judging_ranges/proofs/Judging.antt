@@ -9,13 +9,13 @@ use Rattle.rules.specs.Operations.{judge}
 use Rattle.rules.specs.Sizes.{open_pairs}
 use Rattle.rules.specs.Ranges.{differ_elsewhere, other_plan_lem, range_check, RangeAnswer, turned_away, range_by, range, range_sized}
 use Rattle.answers.proofs.Answers.{judge-accepted}
+use Rattle.std.specs.Prelude.{Result, Ok, Err}
+use Rattle.refusals.specs.declared.Reason.{Reason}
 use Rattle.layout.specs.declared.Size.{Size}
-use Rattle.layout.specs.declared.Named.{Named}
-use Rattle.layout.specs.declared.Named.TheVariants.{Known, Unknown}
 use Rattle.layout.specs.Sizes.{width_is, name_of}
-use Rattle.layout.proofs.Sizes.{known-size, unknown-size}
+use Rattle.layout.proofs.Sizes.{known-size, unknown-size, why-unknown}
 use Rattle.summary.specs.declared.Summary.{Summary}
-use Rattle.checking.specs.Check.{Valid}
+use Rattle.checking.specs.Check.{Valid, refusal_of}
 use Rattle.checking.proofs.Laws.{plan-is, accepted-so}
 use Rattle.tally.specs.declared.Numbers.{Numbers}
 use Rattle.tally.specs.declared.Judgement.{Judgement}
@@ -23,7 +23,7 @@ use Rattle.tally.specs.Judgements.{numbers_of_lem, numbers_answer, JudgementIs}
 use Rattle.comparing.specs.declared.Comparison.{Comparison}
 use Rattle.comparing.specs.Ranges.{CompareRange}
 use Rattle.comparing.specs.Comparisons.{Compares}
-use Rattle.judging_ranges.specs.Ranges.{NumbersIs, BothValid}
+use Rattle.judging_ranges.specs.Ranges.{VerdictSays, range_is}
 
 -- ---- what judging says of an accepted sheet
 
@@ -32,13 +32,19 @@ of-pairs : (k : ℕ) (n : Numbers) (a : Answer) (pairs : List Pair) → numbers_
 of-pairs k n (refusal number place) pairs e = let z : true ≡ false = cc in never z
 of-pairs k n (judgement verdict engine grounds own) pairs e = (own, cc)
 
-pub numbers-are : {z : Size} {b : List ℕ} {s : Summary} → Valid z b s → {j : Judgement} → JudgementIs (width_is z) b j → {n : Numbers} → n ≡ numbers_of_lem j.verdict
-    → NumbersIs (width_is z) b n
-numbers-are {z} {b} v {j} is e =
+pub verdict-says : {z : Size} {b : List ℕ} {s : Summary} → Valid z b s → {j : Judgement} → JudgementIs (width_is z) b j → VerdictSays (width_is z) b j.verdict
+verdict-says {z} {b} v {j} is =
     let t = of-pairs (more_pollutants - width_is z) (numbers_of_lem j.verdict) _ _ is.judges in
-    rw e (t.0, judge-accepted (width_is z) squarings b v.accepts ∙ t.1)
+    (t.0, judge-accepted (width_is z) squarings b v.accepts ∙ t.1)
 
 -- ---- two sheets that the check accepts
+
+pub record BothValid (z : Size) (low : List ℕ) (of_low : Summary) (high : List ℕ) (of_high : Summary) : Type 0 where
+  pub low_valid : Valid z low of_low
+  pub high_valid : Valid z high of_high
+
+pub both : {z y : Size} {low high : List ℕ} {of_low of_high : Summary} → Valid z low of_low → Valid y high of_high → z ≡ y → BothValid z low of_low high of_high
+both v w e = record { low_valid = v; high_valid = rw e w }
 
 module _ {z : Size} {low high : List ℕ} {of_low of_high : Summary} (v : BothValid z low of_low high of_high) where
   abbrev w : ℕ
@@ -96,11 +102,11 @@ module _ (w : ℕ) (low high : List ℕ) {n p : ℕ} where
   unfolding range range_check
   high-refused e h = rw (e, h) refl
 
-module _ (s : ℕ) (low high : List ℕ) {n : Named} (e : n ≡ name_of s) where
-  pub range-unknown : n ≡ Unknown → turned_away 30 0 ≡ range_sized s squarings low high
+module _ (s : ℕ) (low high : List ℕ) {n : Result Size Reason} (e : n ≡ name_of s) where
+  pub range-unknown : {r : Reason} → n ≡ Err r → range_is (Err (refusal_of r)) ≡ range_sized s squarings low high
   unfolding range_sized
-  range-unknown k = unknown-size s e k _ (λ w. range w squarings low high)
+  range-unknown k = rw (why-unknown s e k) (unknown-size s e k _ (λ w. range w squarings low high))
 
-  pub range-known : {z : Size} → n ≡ Known z → {a : RangeAnswer} → a ≡ range (width_is z) squarings low high → a ≡ range_sized s squarings low high
+  pub range-known : {z : Size} → n ≡ Ok z → {a : RangeAnswer} → a ≡ range (width_is z) squarings low high → a ≡ range_sized s squarings low high
   unfolding range_sized
   range-known k q = q ∙ known-size s e k _ (λ w. range w squarings low high)

@@ -7,107 +7,104 @@ ghost use Rattle.rules.specs.Refusals.{accepted};
 ghost use Rattle.rules.specs.Operations.{judge};
 ghost use Rattle.rules.specs.Ranges as rules;
 ghost use Rattle.layout.specs.Sizes.{width_is};
-ghost use Rattle.checking.specs.Check.{Valid};
-ghost use Rattle.judging_ranges.specs.Ranges.{range_is, NumbersIs, BothValid};
+ghost use Rattle.judging_ranges.specs.Ranges.{range_of, range_is, VerdictSays};
 
-use checking::{Checked, Refusal, check_sheet};
+use checking::sheet::AcceptedSheet;
+use checking::{Refusal, check_sheet, why_refused};
 use comparing::compare;
-use layout::{Named, Size};
+use layout::Size;
 use plan::Plan;
-use summary::Summary;
-use tally::{Numbers, judgement_of};
+use refusals::Reason;
+use tally::{Verdict, judgement_of};
 
-// "answer: passes surely, fails surely, or depends", with "the latest engine at which any of them is decided"; or a refusal.
-#[derive(Clone, Copy)]
+// "answer: passes surely, fails surely, or depends", with "the latest engine at which any of them is decided".
+#[derive(Clone, Copy, PartialEq, Eq)]
 pub enum Range {
     PassesSurely(u8),
     FailsSurely(u8),
     Depends,
-    Refused(Refusal),
 }
 
-// "these three return record 0", and 30
-fn refused(number: u8) -> Range
-    ensures { range_is result ≡ rules.turned_away number 0 }
+// The verdict on a sheet that the check accepts.
+fn verdict_of(sheet: AcceptedSheet) -> Verdict
+    ensures { VerdictSays (width_is sheet.entry.size) sheet.entry.bytes.now result }
 {
-    Range::Refused(Refusal::of_no_record(number))
-}
-
-// Verdict, engine and ground of a sheet that the check accepts.
-fn numbers_of(size: Size, sheet: &[u8], said: Summary) -> Numbers
-    requires { Valid size sheet.now said }
-    ensures { NumbersIs (width_is size) sheet.now result }
-{
-    let judgement = judgement_of(size, sheet, said);
-    let verdict = judgement.verdict;
-    verdict.numbers()
+    let judgement = judgement_of(sheet);
+    judgement.verdict
 }
 
 // Of two sheets that are not turned away: where the high sheet passes every sheet between them does, and where the low sheet fails every one
 // does. Each is judged once, and the low one only where the high one does not pass.
-fn surely(size: Size, low: &[u8], said_low: Summary, high: &[u8], said_high: Summary) -> Range
-    requires { BothValid size low.now said_low high.now said_high }
-    ensures { range_is result ≡ rules.range_by accepted (judge (width_is size) squarings low.now) (judge (width_is size) squarings high.now) }
+fn surely(low: AcceptedSheet, high: AcceptedSheet) -> Range
+    requires { low.size ≡ high.size }
+    ensures { range_of result ≡ rules.range_by accepted (judge (width_is low.entry.size) squarings low.entry.bytes.now) (judge (width_is low.entry.size) squarings high.entry.bytes.now) }
 {
-    let passing = numbers_of(size, high, said_high);
-    if passing.verdict == 1 {
-        return Range::PassesSurely(passing.engine);
+    if let Verdict::Pass(n) = verdict_of(high) {
+        return Range::PassesSurely(n);
     }
-    let failing = numbers_of(size, low, said_low);
-    if failing.verdict == 2 {
-        return Range::FailsSurely(failing.engine);
+    match verdict_of(low) {
+        Verdict::FailByRow(n) => Range::FailsSurely(n),
+        Verdict::FailByCause(n) => Range::FailsSurely(n),
+        Verdict::FailByStop(n) => Range::FailsSurely(n),
+        Verdict::Another(_) => Range::Depends,
+        Verdict::Pass(_) => Range::Depends,
+        Verdict::Referred(_) => Range::Depends,
+        Verdict::Held(_) => Range::Depends,
     }
-    Range::Depends
 }
 
-// Of two sheets that the check accepts.
-fn judge_accepted(
-    size: Size,
-    low: &[u8],
-    said_low: Summary,
-    high: &[u8],
-    said_high: Summary,
-) -> Range
-    requires { BothValid size low.now said_low high.now said_high }
-    ensures { range_is result ≡ rules.range (width_is size) squarings low.now high.now }
+// Of two sheets of the same size that the check accepts.
+fn judge_accepted(low: AcceptedSheet, high: AcceptedSheet) -> Result<Range, Refusal>
+    requires { low.size ≡ high.size }
+    ensures { range_is result ≡ rules.range (width_is low.entry.size) squarings low.entry.bytes.now high.entry.bytes.now }
 {
     // "27, sheets differ elsewhere"
-    if low.len() != high.len() {
-        return refused(27);
+    if low.bytes.len() != high.bytes.len() {
+        return Err(Reason::SheetsDiffer.into());
     }
-    let found = compare(size, low, high, said_low.head as usize);
+    let found = compare(low.size, low.bytes, high.bytes, low.said.head as usize);
     // "Plans 1 and 3."
-    let other_plan = (said_low.plan != Plan::KNOWN_DEVIATION) & (said_low.plan != Plan::ATTRIBUTES);
+    let plan = low.said.plan;
+    let other_plan = (plan != Plan::KnownDeviation as u32) & (plan != Plan::Attributes as u32);
     // "or in the first engine of a run-in sheet"
     if found.differs {
-        return refused(27);
+        return Err(Reason::SheetsDiffer.into());
     }
     // "28, a low above its high, after 27"
     if found.crosses {
-        return refused(28);
+        return Err(Reason::LowAboveHigh.into());
     }
     // "29, another plan, after 28"
     if other_plan {
-        return refused(29);
+        return Err(Reason::OtherPlan.into());
     }
-    surely(size, low, said_low, high, said_high)
+    Ok(surely(low, high))
 }
 
 // The answer for the bytes of two sheets of records of that size, whatever they are: "each sheet's own number, low sheet first".
-pub fn judge_range(size: usize, low: &[u8], high: &[u8]) -> Range
+pub fn judge_range(size: usize, low: &[u8], high: &[u8]) -> Result<Range, Refusal>
     ensures { range_is result ≡ rules.range_sized size squarings low.now high.now }
 {
     // "30, size not 20 or 28, before every other"
-    let Named::Known(size) = Size::of(size) else {
-        return refused(30);
-    };
+    let size = Size::try_from(size)?;
     let checked_low = check_sheet(size, low);
-    let Checked::Accepted(said_low) = checked_low else {
-        return Range::Refused(checked_low.refusal());
+    let Ok(said_low) = checked_low else {
+        return Err(why_refused(checked_low));
     };
     let checked_high = check_sheet(size, high);
-    let Checked::Accepted(said_high) = checked_high else {
-        return Range::Refused(checked_high.refusal());
+    let Ok(said_high) = checked_high else {
+        return Err(why_refused(checked_high));
     };
-    judge_accepted(size, low, said_low, high, said_high)
+    judge_accepted(
+        AcceptedSheet {
+            size,
+            bytes: low,
+            said: said_low,
+        },
+        AcceptedSheet {
+            size,
+            bytes: high,
+            said: said_high,
+        },
+    )
 }

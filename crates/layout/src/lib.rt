@@ -5,18 +5,13 @@ ghost use Rattle.std.specs.Prelude.{◌≡◌, ◌*◌, ◌/◌, ◌%◌};
 ghost use Rattle.rules.specs.Sheet.{size, most};
 ghost use Rattle.layout.specs.Sizes.{width_is, name_of};
 
+use refusals::Reason;
+
 // The size of a record, 20 or 28 bytes: by it a sheet is cut into records, and it tells how many pollutants there may be.
-#[derive(Clone, Copy)]
+#[derive(Clone, Copy, PartialEq, Eq)]
 pub enum Size {
     Twenty,
     TwentyEight,
-}
-
-// "Callers name the size" (02, F-10), and may name one that there is not.
-#[derive(Clone, Copy)]
-pub enum Named {
-    Known(Size),
-    Unknown,
 }
 
 impl Size {
@@ -30,19 +25,6 @@ impl Size {
     pub const LONGEST_OF_TWENTY: usize = 39 * Size::TWENTY;
 
     pub const LONGEST_OF_TWENTY_EIGHT: usize = 41 * Size::TWENTY_EIGHT;
-
-    // The size of so many bytes.
-    pub fn of(bytes: usize) -> Named
-        ensures { result ≡ name_of bytes }
-    {
-        if bytes == Size::TWENTY {
-            Named::Known(Size::Twenty)
-        } else if bytes == Size::TWENTY_EIGHT {
-            Named::Known(Size::TwentyEight)
-        } else {
-            Named::Unknown
-        }
-    }
 
     // The bytes of a record.
     pub fn bytes(self) -> usize
@@ -92,6 +74,21 @@ impl Size {
         match self {
             Size::Twenty => bytes % Size::TWENTY,
             Size::TwentyEight => bytes % Size::TWENTY_EIGHT,
+        }
+    }
+}
+
+// "Callers name the size" (02, F-10), and may name one that there is not: "30, size not 20 or 28".
+impl TryFrom<usize> for Size {
+    type Error = Reason;
+
+    ghost try_from_gives = { λ bytes r. r ≡ name_of bytes };
+
+    fn try_from(bytes: usize) -> Result<Size, Reason> {
+        match bytes {
+            Size::TWENTY => Ok(Size::Twenty),
+            Size::TWENTY_EIGHT => Ok(Size::TwentyEight),
+            _ => Err(Reason::Size),
         }
     }
 }

@@ -1,17 +1,18 @@
 -- Four logarithms at a time.
-use Rattle.std.specs.Prelude.{ℕ, ◌≤◌}
+use Rattle.std.specs.Prelude.{ℕ, ◌≤◌, List, map, get_or}
 use Rattle.rules.specs.Logarithm.{greatest, squarings, g}
-use Rattle.logarithm.specs.declared.Four.{Four}
 
 -- "m from 1 to 9,999,999"
 abbrev pub Measured : ℕ → Type 0
 Measured m = (1 ≤ m) × (m ≤ greatest)
 
-pub record FourRanges (m : Four) : Type 0 where
-  pub a : Measured m.a
-  pub b : Measured m.b
-  pub c : Measured m.c
-  pub d : Measured m.d
+-- each of the four is
+pub record FourRanges (m : List ℕ) : Type 0 where
+  pub a : Measured (get_or m 0 0)
+  pub b : Measured (get_or m 1 0)
+  pub c : Measured (get_or m 2 0)
+  pub d : Measured (get_or m 3 0)
 
-abbrev pub logarithms_of : Four → Four
-logarithms_of m = record { a = g squarings m.a; b = g squarings m.b; c = g squarings m.c; d = g squarings m.d }
+-- g of each
+abbrev pub logarithms_of : List ℕ → List ℕ
+logarithms_of m = map (g squarings) m

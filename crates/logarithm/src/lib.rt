@@ -6,7 +6,7 @@ ghost use Rattle.rules.specs.Logarithm.{g, squarings};
 ghost use Rattle.logarithm.specs.Four.{Measured, FourRanges, logarithms_of};
 ghost use Rattle.logarithm.specs.Squaring.{Fits, start_of, next_of};
 
-use values::GREATEST;
+use values::is_outside;
 
 // 02, F-9: "Take twenty steps in place of sixteen": the number of squarings, `squarings` of the definitions.
 const STEPS: u32 = 20;
@@ -23,10 +23,10 @@ fn start(m: u32) -> Unfinished
     requires { Measured m }
     ensures { result ≡ start_of m }
 {
-    let zeros = u32::leading_zeros(m);
+    let zeros = m.leading_zeros();
     Unfinished {
         bits: 31 - zeros,
-        scaled: (m as u64) << zeros,
+        scaled: u64::from(m) << zeros,
     }
 }
 
@@ -49,10 +49,7 @@ fn squared(x: Unfinished) -> Unfinished
 pub fn log2(m: u32) -> u32
     ensures { result ≡ g squarings m }
 {
-    if m < 1 {
-        return 0;
-    }
-    if GREATEST < m {
+    if is_outside(m) {
         return 0;
     }
     let mut x = start(m);
@@ -62,35 +59,21 @@ pub fn log2(m: u32) -> u32
     x.bits
 }
 
-// Four numbers, or the logarithms of four.
-#[derive(Clone, Copy)]
-pub struct Four {
-    pub a: u32,
-    pub b: u32,
-    pub c: u32,
-    pub d: u32,
-}
-
 // g of each of four numbers, faster than one by one: a squaring waits for the one before it, but only of the same number.
 // For a caller that has checked the four numbers: so it may require.
-pub fn log2_four(m: Four) -> Four
+pub fn log2_four(m: [u32; 4]) -> [u32; 4]
     requires { FourRanges m }
     ensures { result ≡ logarithms_of m }
 {
-    let mut a = start(m.a);
-    let mut b = start(m.b);
-    let mut c = start(m.c);
-    let mut d = start(m.d);
+    let mut a = start(m[0]);
+    let mut b = start(m[1]);
+    let mut c = start(m[2]);
+    let mut d = start(m[3]);
     for _ in 0..STEPS {
         a = squared(a);
         b = squared(b);
         c = squared(c);
         d = squared(d);
     }
-    Four {
-        a: a.bits,
-        b: b.bits,
-        c: c.bits,
-        d: d.bits,
-    }
+    [a.bits, b.bits, c.bits, d.bits]
 }

@@ -6,7 +6,8 @@ ghost use Rattle.rules.specs.Sheet.{measurement};
 ghost use Rattle.measurements.specs.Measurements.{bad_value_by, bad_measurement_by, bad_behind_lem};
 
 use layout::Size;
-use record::{Quantities, measurement_of};
+use pollutants::Each;
+use record::measurement_of;
 use values::GREATEST;
 
 // 8, of pollutant p, whose limit is 0 where it is not declared.
@@ -20,7 +21,8 @@ fn bad_value(limit: u32, r: &[u8], p: u32) -> bool
 
 // "8, measurement, also one not zero of an undeclared pollutant", of pollutants 1 to 4.
 // One caller, for engines and run-in values: with a call for each the compiler left it outside the check's loop.
-pub fn bad_measurement(limits: Quantities, r: &[u8]) -> bool
+#[tactic(auto, unfolding(crate::specs::Measurements::bad_measurement_by))]
+pub fn bad_measurement(limits: Each<u32>, r: &[u8]) -> bool
     ensures { result ≡ bad_measurement_by limits r.now }
 {
     bad_value(limits.co, r, 1)
@@ -30,7 +32,7 @@ pub fn bad_measurement(limits: Quantities, r: &[u8]) -> bool
 }
 
 // The same of pollutants 5 and 6, which a record of 28 bytes alone has measurements of.
-pub fn bad_behind(size: Size, limits: Quantities, r: &[u8]) -> bool
+pub fn bad_behind(size: Size, limits: Each<u32>, r: &[u8]) -> bool
     ensures { result ≡ bad_behind_lem size limits r.now }
 {
     match size {

@@ -5,35 +5,19 @@ ghost use Rattle.std.specs.Prelude.{◌≡◌, ◌<◌, length};
 ghost use Rattle.rules.specs.Tools.{byte, two, four};
 ghost use Rattle.numbers.specs.Ranges.{ByteRange, PlaceRange};
 
-// Byte i of bytes that have it.
-fn present(r: &[u8], i: usize) -> u32
-    requires { ByteRange i 1 (length r.now) }
-    ensures { (result ≡ byte r.now i) × (result < 256) }
-{
-    r[i] as u32
-}
-
-// The number in bytes i and i + 1 of bytes that have them.
-fn u16_present(r: &[u8], i: usize) -> u32
-    requires { ByteRange i 2 (length r.now) }
-    ensures { (result ≡ two r.now i) × (result < 65536) }
-{
-    present(r, i) + 256 * present(r, i + 1)
-}
-
 // The number in the four bytes from i on, of bytes that have them. For this crate, `record` and `statistics`, which read where the sheet lies: so it may require.
 pub fn u32_present(r: &[u8], i: usize) -> u32
     requires { ByteRange i 4 (length r.now) }
     ensures { result ≡ four r.now i }
 {
-    u16_present(r, i) + 65536 * u16_present(r, i + 2)
+    u32::from_le_bytes([r[i], r[i + 1], r[i + 2], r[i + 3]])
 }
 
 // Byte i of a record, for the fields of one byte and for the bytes that must be zero.
 pub fn byte_at(r: &[u8], i: usize) -> u32
     ensures { (result ≡ byte r.now i) × (result < 256) }
 {
-    if i < r.len() { present(r, i) } else { 0 }
+    r.get(i).map_or(0, |b| u32::from(*b))
 }
 
 // The number in bytes i and i + 1. One question for both, so that they are read together.
@@ -43,9 +27,9 @@ pub fn u16_at(r: &[u8], i: usize) -> u32
     ensures { (result ≡ two r.now i) × (result < 65536) }
 {
     if i + 1 < r.len() {
-        u16_present(r, i)
+        u32::from(u16::from_le_bytes([r[i], r[i + 1]]))
     } else {
-        byte_at(r, i) + 256 * byte_at(r, i + 1)
+        byte_at(r, i)
     }
 }
 

@@ -1,31 +1,22 @@
-// What an operation that writes into lent memory comes to.
+// What an operation that writes into lent memory comes to: done, or the refusal that append, report and the converter return.
 #![tactic(auto)]
 
-ghost use Rattle.std.specs.Prelude.{◌≡◌};
+ghost use Rattle.std.specs.Prelude.{◌≡◌, Err};
 ghost use Rattle.outcomes.specs.Outcomes.{outcome_is, check_is};
 
-use checking::{Checked, Refusal};
+use checking::Refusal;
+use summary::Summary;
 
-// Done, or the refusal that append, report and the converter return.
-#[derive(Clone, Copy)]
-pub enum Outcome {
-    Done,
-    Refused(Refusal),
-}
-
-// Refused with a number that names no record.
-pub fn refused(number: u8) -> Outcome
-    ensures { result ≡ Outcome.Refused (record { number = number; place = 0 }) }
+// Refused with a number that names no record, whatever number: the operations give a `Reason` instead.
+pub fn refused(number: u8) -> Result<(), Refusal>
+    ensures { result ≡ Err (record { number = number; place = 0 }) }
 {
-    Outcome::Refused(Refusal::of_no_record(number))
+    Err(Refusal::of_no_record(number))
 }
 
 // The check's answer without what an accepted sheet says.
-pub fn checked_outcome(checked: Checked) -> Outcome
+pub fn checked_outcome(checked: Result<Summary, Refusal>) -> Result<(), Refusal>
     ensures { outcome_is result ≡ check_is checked }
 {
-    match checked {
-        Checked::Accepted(_) => Outcome::Done,
-        Checked::Refused(refusal) => Outcome::Refused(refusal),
-    }
+    checked.map(|_| ())
 }

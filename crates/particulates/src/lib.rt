@@ -5,6 +5,7 @@ ghost use Rattle.std.specs.Prelude.{◌≡◌};
 ghost use Rattle.rules.specs.Refusals.{particulate_limit_lem};
 
 // "Under 700 cm³ and above 3000 per minute, the particulate limit of production is 250 through 19980930 and 150 after ..; every other engine has 150."
+#[tactic(auto, unfolding(rules::specs::Refusals::particulate_limit_lem))]
 pub fn particulate_limit(volume: u32, speed: u32, date: u32) -> u32
     ensures { result ≡ particulate_limit_lem volume speed date }
 {

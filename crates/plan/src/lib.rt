@@ -3,31 +3,40 @@
 
 ghost use Rattle.std.specs.Prelude.{◌≡◌};
 ghost use Rattle.rules.specs.Plans.{plan_of, last_row_lem};
-ghost use Rattle.plan.specs.Plan.{plan_is};
+ghost use Rattle.plan.specs.Plan.{plan_is, plan_named};
 
-// By which plan a sheet is judged.
-#[derive(Clone, Copy)]
+use refusals::Reason;
+
+// By which plan a sheet is judged, with its number on a sheet.
+#[derive(Clone, Copy, PartialEq, Eq)]
 pub enum Plan {
-    KnownDeviation,
-    UnknownDeviation,
-    Attributes,
-    InService,
+    KnownDeviation = 1,
+    UnknownDeviation = 2,
+    Attributes = 3,
+    InService = 4,
     // Unknown deviation, the corrected sheet (02, F-6).
-    Corrected,
+    Corrected = 5,
+}
+
+// "5, plan not 1 to 4"; 02, F-6: "Refusal 5 admits plan 5."
+impl TryFrom<u32> for Plan {
+    type Error = Reason;
+
+    ghost try_from_gives = { λ number r. r ≡ plan_named number };
+
+    fn try_from(number: u32) -> Result<Plan, Reason> {
+        match number {
+            1 => Ok(Plan::KnownDeviation),
+            2 => Ok(Plan::UnknownDeviation),
+            3 => Ok(Plan::Attributes),
+            4 => Ok(Plan::InService),
+            5 => Ok(Plan::Corrected),
+            _ => Err(Reason::Plan),
+        }
+    }
 }
 
 impl Plan {
-    // The number of each plan on a sheet.
-    pub const KNOWN_DEVIATION: u32 = 1;
-
-    pub const UNKNOWN_DEVIATION: u32 = 2;
-
-    pub const ATTRIBUTES: u32 = 3;
-
-    pub const IN_SERVICE: u32 = 4;
-
-    pub const CORRECTED: u32 = 5;
-
     // The last row of each.
     pub const KNOWN_DEVIATION_LAST_ROW: u32 = 32;
 
@@ -43,19 +52,7 @@ impl Plan {
     pub fn of(number: u32) -> Plan
         ensures { plan_is result ≡ plan_of number }
     {
-        if number == Plan::KNOWN_DEVIATION {
-            Plan::KnownDeviation
-        } else if number == Plan::UNKNOWN_DEVIATION {
-            Plan::UnknownDeviation
-        } else if number == Plan::ATTRIBUTES {
-            Plan::Attributes
-        } else if number == Plan::IN_SERVICE {
-            Plan::InService
-        } else if number == Plan::CORRECTED {
-            Plan::Corrected
-        } else {
-            Plan::KnownDeviation
-        }
+        Plan::try_from(number).unwrap_or(Plan::KnownDeviation)
     }
 
     // "The last row belongs to the plan".

@@ -6,13 +6,15 @@ ghost use Rattle.rules.specs.Logarithm.{squarings};
 ghost use Rattle.rules.specs.Sheet.{pollutants};
 ghost use Rattle.rules.specs.Printed.{decimal, line, printed};
 ghost use Rattle.lines.specs.Writing.{room, nothing, Adds, Written};
+ghost use Rattle.tally.specs.Judgements.{numbers_of_lem};
 ghost use Rattle.printing.specs.Judgements.{first_line_lem, decision_line, judgement_lines_lem};
 
-use decisions::{Decision, Decisions};
+use decisions::Decision;
 use layout::Size;
 use lines::Lines;
-use series::{Judged, judge};
-use tally::{Judgement, Numbers};
+use pollutants::Each;
+use series::judge;
+use tally::{Judgement, Numbers, Verdict};
 
 // A line of a word and two numbers.
 fn line_of(word: &[u8], a: u8, b: u8) -> Lines
@@ -28,20 +30,22 @@ fn line_of(word: &[u8], a: u8, b: u8) -> Lines
 }
 
 // "Line 1: verdict word (another, pass, fail, referred), engine, ground"; 02, F-5: "printed `held`"
-fn first_line(numbers: Numbers) -> Lines
-    ensures { Adds nothing result (first_line_lem numbers) 17 }
+fn first_line(verdict: Verdict) -> Lines
+    ensures { Adds nothing result (first_line_lem (numbers_of_lem verdict)) 17 }
 {
     let Numbers {
-        verdict,
         engine,
         grounds,
-    } = numbers;
+        ..
+    } = verdict.numbers();
     match verdict {
-        0 => line_of(b"another", engine, grounds),
-        1 => line_of(b"pass", engine, grounds),
-        2 => line_of(b"fail", engine, grounds),
-        3 => line_of(b"referred", engine, grounds),
-        _ => line_of(b"held", engine, grounds),
+        Verdict::Another(_) => line_of(b"another", engine, grounds),
+        Verdict::Pass(_) => line_of(b"pass", engine, grounds),
+        Verdict::FailByRow(_) => line_of(b"fail", engine, grounds),
+        Verdict::FailByCause(_) => line_of(b"fail", engine, grounds),
+        Verdict::FailByStop(_) => line_of(b"fail", engine, grounds),
+        Verdict::Referred(_) => line_of(b"referred", engine, grounds),
+        Verdict::Held(_) => line_of(b"held", engine, grounds),
     }
 }
 
@@ -75,14 +79,14 @@ fn judgement_lines(judgement: Judgement) -> Lines
     ensures { Adds nothing result (judgement_lines_lem judgement) room }
 {
     let Judgement { verdict, decisions } = judgement;
-    let Decisions {
+    let Each {
         co,
         hc,
         nox,
         pm,
         ..
     } = decisions;
-    let lines = first_line(verdict.numbers());
+    let lines = first_line(verdict);
     let lines = with_pollutant(lines, 1, co);
     let lines = with_pollutant(lines, 2, hc);
     let lines = with_pollutant(lines, 3, nox);
@@ -94,8 +98,8 @@ pub fn print(sheet: &[u8]) -> Lines
     ensures { Written result (printed pollutants squarings sheet.now) }
 {
     match judge(Size::TWENTY, sheet) {
-        Judged::Judgement(judgement) => judgement_lines(judgement),
+        Ok(judgement) => judgement_lines(judgement),
         // "A refusal prints `refused`, number, record."
-        Judged::Refused(refusal) => line_of(b"refused", refusal.number, refusal.place),
+        Err(refusal) => line_of(b"refused", refusal.number, refusal.place),
     }
 }

@@ -26,8 +26,16 @@ pub extern "C" fn probe_evidence(size: usize, sheet: &[u8], code: &mut u32) -> u
     ensures value { result ≡ length (evidence_sized size squarings sheet.now) }
     ensures code_after { code.new ≡ rules.code (check_sized size sheet.now) }
 {
-    let part = series::evidence(size, sheet, code);
-    part.len()
+    match series::evidence(size, sheet) {
+        Ok(part) => {
+            *code = 0;
+            part.len()
+        }
+        Err(refusal) => {
+            *code = refusal.code();
+            0
+        }
+    }
 }
 
 // Writes the lines of the sheet, of 20-byte records, to the start of output if they fit, else nothing, and answers how many bytes they are:
@@ -51,7 +59,7 @@ fn walked(size: usize, sheet: &[u8], k: usize) -> usize
     ensures { result ≡ reached size sheet.now k }
 {
     let mut at: usize = 0;
-    while at < k {
+    for _ in 0..k {
         let turn = turn_at(size, sheet, at);
         if turn.left == 0 {
             return at;

@@ -3,14 +3,14 @@ use Rattle.std.specs.Prelude.{ℕ, ◌+◌, ◌-◌, ◌/◌, cond, List, [], lt
 use Rattle.std.specs.Borrow.{Bor}
 use Rattle.rules.specs.Sheet.{Record, size, pollutant_kind, engine_kind, stop_kind, small_engine_kind, run_in_kind, kind, number, plan, limit, deviation, cause, measurement, volume, speed, date}
 use Rattle.rules.specs.Sizes.{sized, records_sized}
-use Rattle.record.specs.declared.Quantities.{Quantities}
+use Rattle.pollutants.specs.declared.Each.{Each}
 use Rattle.reading.specs.declared.SheetReader.{SheetReader}
 use Rattle.reading.specs.declared.Step.{Step}
 use Rattle.reading.specs.declared.Step.TheVariants.{Pollutant, Engine, Stop, SmallEngine, RunIn, Other, End}
 use Rattle.reading.specs.declared.Turn.{Turn}
 
 -- "bytes 4-19 four u32 measurements, pollutant 1 first", and 02, F-10, "measurements 5 and 6"
-abbrev pub measurements_in : Record → Quantities
+abbrev pub measurements_in : Record → Each ℕ
 measurements_in r =
     record { co = measurement r 1; hc = measurement r 2; nox = measurement r 3; pm = measurement r 4; fifth = measurement r 5; sixth = measurement r 6 }
 

@@ -1,19 +1,20 @@
 // "A sheet under reading is the lent bytes and the number of the next record": a struct over the slice, with the size of its records, and few functions over it.
-// Each takes the struct apart and leaves the work to a function on size, slice and number.
+// Each takes the struct apart and leaves the work to a function on size, slice and number, which stays for itself: docs/PROVED.md names its promise.
 #![tactic(auto)]
 
 ghost use Rattle.std.specs.Prelude.{◌≡◌};
-ghost use Rattle.reading.specs.Steps.{measurements_in, whole_records_lem, step_at_lem, left_at_lem, next_at, reader, advanced, turn_at_lem};
+ghost use Rattle.reading.specs.Steps.{measurements_in, step_of, whole_records_lem, step_at_lem, left_at_lem, next_at, reader, advanced, turn_at_lem};
 
-use layout::{Named, Size};
+use layout::Size;
+use pollutants::Each;
 use record::small_engine::{date_of, speed_of, volume_of};
 use record::{
-    ENGINE, POLLUTANT, Quantities, RUN_IN, SMALL_ENGINE, STOP, cause_of, deviation_of, kind_of,
-    limit_of, measurement_of, number_of, plan_of, record_at,
+    Kind, cause_of, deviation_of, kind_of, limit_of, measurement_of, number_of, plan_of, record_at,
 };
 
-// What stands at a number: a record of one of the five kinds, one of a kind that there is not, or the end of the whole records.
-#[derive(Clone, Copy)]
+// What stands at a number: a record of one of the five kinds, one of a kind that there is not, or the end of the whole records. All in one enum, no
+// Result in an Option: a walk asks for each in one match.
+#[derive(Clone, Copy, PartialEq, Eq)]
 pub enum Step {
     Pollutant {
         number: u32,
@@ -23,7 +24,7 @@ pub enum Step {
     },
     Engine {
         cause: u32,
-        measurements: Quantities,
+        measurements: Each<u32>,
     },
     Stop,
     SmallEngine {
@@ -32,7 +33,7 @@ pub enum Step {
         date: u32,
     },
     RunIn {
-        measurements: Quantities,
+        measurements: Each<u32>,
     },
     Other {
         kind: u32,
@@ -41,20 +42,18 @@ pub enum Step {
 }
 
 // How many whole records so many bytes are; of a size that there is not, none.
+#[tactic(auto, using(std::proofs::lemmas::Bool::Decides::nat_tests), unfolding(crate::specs::Steps::whole_records_lem))]
 fn whole_records(size: usize, bytes: usize) -> usize
     ensures { result ≡ whole_records_lem size bytes }
 {
-    match Size::of(size) {
-        Named::Known(size) => size.records_in(bytes),
-        Named::Unknown => 0,
-    }
+    Size::try_from(size).map_or(0, |size| size.records_in(bytes))
 }
 
 // The measurements of an engine, or run-in values.
-fn measurements_of(r: &[u8]) -> Quantities
+fn measurements_of(r: &[u8]) -> Each<u32>
     ensures { result ≡ measurements_in r.now }
 {
-    Quantities {
+    Each {
         co: measurement_of(r, 1),
         hc: measurement_of(r, 2),
         nox: measurement_of(r, 3),
@@ -64,62 +63,59 @@ fn measurements_of(r: &[u8]) -> Quantities
     }
 }
 
+// What a record says, by its kind.
+#[tactic(auto, using(std::proofs::lemmas::Bool::Decides::nat_tests), unfolding(crate::specs::Steps::step_of))]
+fn step_of(r: &[u8]) -> Step
+    ensures { result ≡ step_of r.now }
+{
+    let kind = kind_of(r);
+    match Kind::try_from(kind) {
+        Ok(Kind::Pollutant) => Step::Pollutant {
+            number: number_of(r),
+            plan: plan_of(r),
+            limit: limit_of(r),
+            deviation: deviation_of(r),
+        },
+        Ok(Kind::Engine) => Step::Engine {
+            cause: cause_of(r),
+            measurements: measurements_of(r),
+        },
+        Ok(Kind::Stop) => Step::Stop,
+        Ok(Kind::SmallEngine) => Step::SmallEngine {
+            volume: volume_of(r),
+            speed: speed_of(r),
+            date: date_of(r),
+        },
+        Ok(Kind::RunIn) => Step::RunIn {
+            measurements: measurements_of(r),
+        },
+        Err(_) => Step::Other { kind },
+    }
+}
+
 // What stands at a number of a sheet of records of that size. A record that is not whole is the end.
 pub fn step_at(size: usize, bytes: &[u8], at: usize) -> Step
     ensures { result ≡ step_at_lem size bytes.now at }
 {
-    let Named::Known(size) = Size::of(size) else {
+    let Ok(size) = Size::try_from(size) else {
         return Step::End;
     };
     if size.records_in(bytes.len()) <= at {
         return Step::End;
     }
-    let r = record_at(size, bytes, at);
-    let kind = kind_of(r);
-    if kind == POLLUTANT {
-        return Step::Pollutant {
-            number: number_of(r),
-            plan: plan_of(r),
-            limit: limit_of(r),
-            deviation: deviation_of(r),
-        };
-    }
-    if kind == ENGINE {
-        return Step::Engine {
-            cause: cause_of(r),
-            measurements: measurements_of(r),
-        };
-    }
-    if kind == STOP {
-        return Step::Stop;
-    }
-    if kind == SMALL_ENGINE {
-        let volume = volume_of(r);
-        let speed = speed_of(r);
-        let date = date_of(r);
-        return Step::SmallEngine {
-            volume,
-            speed,
-            date,
-        };
-    }
-    if kind == RUN_IN {
-        return Step::RunIn {
-            measurements: measurements_of(r),
-        };
-    }
-    Step::Other { kind }
+    step_of(record_at(size, bytes, at))
 }
 
 // How many whole records are left from the number on.
+#[tactic(auto, using(crate::proofs::Counts::length_sized), unfolding(crate::specs::Steps::left_at_lem))]
 pub fn left_at(size: usize, bytes: &[u8], at: usize) -> usize
     ensures { result ≡ left_at_lem size bytes.now at }
 {
-    let n = whole_records(size, bytes.len());
-    if at < n { n - at } else { 0 }
+    whole_records(size, bytes.len()).saturating_sub(at)
 }
 
 // The number after a number. The end stays the end, so that no number is too large to have one after it.
+#[tactic(auto, using(crate::proofs::Counts::length_sized), unfolding(crate::specs::Steps::next_at))]
 pub fn next_at(size: usize, bytes: &[u8], at: usize) -> usize
     ensures { result ≡ next_at size bytes.now at }
 {
@@ -157,11 +153,9 @@ impl<'a> SheetReader<'a> {
     pub fn advance(self) -> SheetReader<'a>
         ensures { result ≡ advanced self.entry }
     {
-        let next = next_at(self.size, self.bytes, self.next);
         SheetReader {
-            size: self.size,
-            bytes: self.bytes,
-            next,
+            next: next_at(self.size, self.bytes, self.next),
+            ..self
         }
     }
 
@@ -174,7 +168,7 @@ impl<'a> SheetReader<'a> {
 }
 
 // One turn of a walk over a sheet: what stands at a number, the number after it, and how many whole records are left from it on.
-#[derive(Clone, Copy)]
+#[derive(Clone, Copy, PartialEq, Eq)]
 pub struct Turn {
     pub step: Step,
     pub next: usize,

@@ -1,65 +1,50 @@
 // The fields of a record, by document 01's "The sheet". A byte past the record's end counts as 0.
 #![tactic(auto)]
 
-ghost use Rattle.std.specs.Prelude.{◌≡◌, cond, ◌<◌, length};
+ghost use Rattle.std.specs.Prelude.{◌≡◌, ◌<◌, length};
 ghost use Rattle.rules.specs.Sheet.{kind, number, plan, limit, deviation, cause, measurement};
 ghost use Rattle.accepted.specs.Sheets.{record_at_lem};
 ghost use Rattle.layout.specs.Sizes.{width_is};
 ghost use Rattle.record.specs.Ranges.{RecordRange, MeasurementRange};
-ghost use Rattle.record.specs.Quantities.{quantities_with};
+ghost use Rattle.record.specs.Kinds.{kind_named};
 
 use layout::Size;
 use numbers::{byte_at, u16_at, u32_at, u32_present};
+use refusals::Reason;
 
 pub mod small_engine;
 
-// The kinds of a record: a pollutant, an engine or vehicle, testing stopped by the manufacturer, what makes an engine a small one, and the
-// first engine's values after running-in.
-pub const POLLUTANT: u32 = 1;
-
-pub const ENGINE: u32 = 2;
-
-pub const STOP: u32 = 3;
-
-pub const SMALL_ENGINE: u32 = 5;
-
-pub const RUN_IN: u32 = 6;
-
-// 02, F-5: "Cause 65,535 now marks a gross emitter whose finding is pending"
-pub const PENDING: u32 = 65_535;
-
-// A number for each pollutant, "carbon monoxide, hydrocarbons, nitrogen oxides, particulates", and for the two more that 02, F-10, does not name.
-#[derive(Clone, Copy)]
-pub struct Quantities {
-    pub co: u32,
-    pub hc: u32,
-    pub nox: u32,
-    pub pm: u32,
-    pub fifth: u32,
-    pub sixth: u32,
+// The kinds of a record, each with its number: a pollutant, an engine or vehicle, testing stopped by the manufacturer, what makes an engine a
+// small one, and the first engine's values after running-in.
+#[derive(Clone, Copy, PartialEq, Eq)]
+pub enum Kind {
+    Pollutant = 1,
+    Engine = 2,
+    Stop = 3,
+    SmallEngine = 5,
+    RunIn = 6,
 }
 
-fn chosen(test: bool, a: u32, b: u32) -> u32
-    ensures { result ≡ cond test a b }
-{
-    if test { a } else { b }
-}
+// "2, kind not 1 to 3", and 02, F-1: "record kind 5", F-2: "record kind 6"
+impl TryFrom<u32> for Kind {
+    type Error = Reason;
 
-impl Quantities {
-    // These, but x for pollutant p.
-    pub fn with(self, p: u32, x: u32) -> Quantities
-        ensures { result ≡ quantities_with self p x }
-    {
-        Quantities {
-            co: chosen(p == 1, x, self.co),
-            hc: chosen(p == 2, x, self.hc),
-            nox: chosen(p == 3, x, self.nox),
-            pm: chosen(p == 4, x, self.pm),
-            fifth: chosen(p == 5, x, self.fifth),
-            sixth: chosen(p == 6, x, self.sixth),
+    ghost try_from_gives = { λ number r. r ≡ kind_named number };
+
+    fn try_from(number: u32) -> Result<Kind, Reason> {
+        match number {
+            1 => Ok(Kind::Pollutant),
+            2 => Ok(Kind::Engine),
+            3 => Ok(Kind::Stop),
+            5 => Ok(Kind::SmallEngine),
+            6 => Ok(Kind::RunIn),
+            _ => Err(Reason::Kind),
         }
     }
 }
+
+// 02, F-5: "Cause 65,535 now marks a gross emitter whose finding is pending"
+pub const PENDING: u32 = 65_535;
 
 // Record k of a sheet of records of that size. For `checking`, `reading`, `causes`, `corrections`, `tally`, `converting` and `entering`, which ask for records below the sheet's end: so it may require.
 pub fn record_at(size: Size, sheet: &[u8], k: usize) -> &[u8]
@@ -72,6 +57,7 @@ pub fn record_at(size: Size, sheet: &[u8], k: usize) -> &[u8]
 }
 
 // "Byte 0 is the kind."
+#[tactic(auto, unfolding(rules::specs::Sheet::kind))]
 pub fn kind_of(r: &[u8]) -> u32
     ensures { (result ≡ kind r.now) × (result < 256) }
 {
@@ -79,6 +65,7 @@ pub fn kind_of(r: &[u8]) -> u32
 }
 
 // "byte 1 pollutant number"
+#[tactic(auto, unfolding(rules::specs::Sheet::number))]
 pub fn number_of(r: &[u8]) -> u32
     ensures { (result ≡ number r.now) × (result < 256) }
 {
@@ -86,6 +73,7 @@ pub fn number_of(r: &[u8]) -> u32
 }
 
 // "byte 2 plan"
+#[tactic(auto, unfolding(rules::specs::Sheet::plan))]
 pub fn plan_of(r: &[u8]) -> u32
     ensures { (result ≡ plan r.now) × (result < 256) }
 {
@@ -93,6 +81,7 @@ pub fn plan_of(r: &[u8]) -> u32
 }
 
 // "bytes 4-7 limit L"
+#[tactic(auto, unfolding(rules::specs::Sheet::limit))]
 pub fn limit_of(r: &[u8]) -> u32
     ensures { result ≡ limit r.now }
 {
@@ -100,6 +89,7 @@ pub fn limit_of(r: &[u8]) -> u32
 }
 
 // "bytes 8-11 deviation t"
+#[tactic(auto, unfolding(rules::specs::Sheet::deviation))]
 pub fn deviation_of(r: &[u8]) -> u32
     ensures { result ≡ deviation r.now }
 {
@@ -107,6 +97,7 @@ pub fn deviation_of(r: &[u8]) -> u32
 }
 
 // "bytes 2-3 cause"
+#[tactic(auto, unfolding(rules::specs::Sheet::cause))]
 pub fn cause_of(r: &[u8]) -> u32
     ensures { (result ≡ cause r.now) × (result < 65536) }
 {
@@ -115,6 +106,7 @@ pub fn cause_of(r: &[u8]) -> u32
 
 // "bytes 4-19 four u32 measurements, pollutant 1 first"; 02, F-10: "measurements 5 and 6" behind them; F-2: run-in values are "laid out as
 // measurements"
+#[tactic(auto, unfolding(rules::specs::Sheet::measurement))]
 pub fn measurement_of(r: &[u8], p: u32) -> u32
     ensures { result ≡ measurement r.now p }
 {

@@ -5,6 +5,7 @@ ghost use Rattle.rules.specs.Sheet.{volume, speed, date};
 use numbers::{u16_at, u32_at};
 
 // "bytes 2-3 swept volume per cylinder in cm³"
+#[tactic(auto, unfolding(rules::specs::Sheet::volume))]
 pub fn volume_of(r: &[u8]) -> u32
     ensures { (result ≡ volume r.now) × (result < 65536) }
 {
@@ -12,6 +13,7 @@ pub fn volume_of(r: &[u8]) -> u32
 }
 
 // "bytes 4-5 rated speed per minute"
+#[tactic(auto, unfolding(rules::specs::Sheet::speed))]
 pub fn speed_of(r: &[u8]) -> u32
     ensures { (result ≡ speed r.now) × (result < 65536) }
 {
@@ -19,6 +21,7 @@ pub fn speed_of(r: &[u8]) -> u32
 }
 
 // "bytes 8-11 test date"
+#[tactic(auto, unfolding(rules::specs::Sheet::date))]
 pub fn date_of(r: &[u8]) -> u32
     ensures { result ≡ date r.now }
 {

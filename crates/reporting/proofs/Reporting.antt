@@ -10,22 +10,23 @@ use Rattle.rules.specs.Operations.{judge, pair_bytes, report_bytes, report, repo
 use Rattle.answers.proofs.Answers.{check_in, judge-check, judge-accepted}
 use Rattle.answers.proofs.Ranges.{JudgementIn, judgement-range}
 use Rattle.sizes.proofs.Columns.{report-columns}
+use Rattle.std.specs.Prelude.{Result, Ok, Err}
+use Rattle.refusals.specs.declared.Reason.{Reason}
 use Rattle.layout.specs.declared.Size.{Size}
+use Rattle.checking.specs.declared.Refusal.{Refusal}
+use Rattle.checking.specs.Check.{refusal_of}
+use Rattle.outcomes.specs.Outcomes.{outcome_is}
 use Rattle.layout.specs.declared.Size.TheVariants.{Twenty, TwentyEight}
-use Rattle.layout.specs.declared.Named.{Named}
-use Rattle.layout.specs.declared.Named.TheVariants.{Known, Unknown}
 use Rattle.layout.specs.Sizes.{width_is, name_of}
-use Rattle.layout.proofs.Sizes.{known-size, unknown-size}
+use Rattle.layout.proofs.Sizes.{known-size, unknown-size, why-unknown}
 use Rattle.tally.specs.declared.Judgement.{Judgement}
-use Rattle.series.specs.declared.Judged.{Judged}
-use Rattle.series.specs.declared.Judged.TheVariants as judged
 use Rattle.tally.specs.Judgements.{judgement_is, six_pairs}
 use Rattle.series.specs.Answers.{judged_is}
 use Rattle.reporting.specs.Judging.{judged_check}
 
-judged-check : (j : Judged) → judged_check j ≡ check_in (judged_is j)
-judged-check (judged.Judgement j) = refl
-judged-check (judged.Refused r) = refl
+judged-check : (j : Result Judgement Refusal) → judged_check j ≡ check_in (judged_is j)
+judged-check (Ok j) = refl
+judged-check (Err r) = refl
 
 check-of : (w : ℕ) (a : Answer) → check_in (six_pairs w a) ≡ check_in a
 check-of w (refusal number place) = refl
@@ -63,36 +64,36 @@ module _ (z : Size) (b o : List ℕ) where
   unfolding report
   too_short h = rw (lt-ltb (length o) (size w) h) refl
 
-  module _ (h : size w ≤ length o) (j : Judged) (e : judged_is j ≡ six_pairs w (judge w squarings b)) where
+  module _ (h : size w ≤ length o) (j : Result Judgement Refusal) (e : judged_is j ≡ six_pairs w (judge w squarings b)) where
     pub answer-is : report w b o ≡ judged_check j
     unfolding report
     answer-is =
         rw (le-ltb (length o) (size w) h) (sym (judged-check j ∙ ap check_in e ∙ check-of w (judge w squarings b) ∙ judge-check w squarings b))
 
     -- of the report with six pairs, as many bytes as the size has
-    pub wrote : {g : Judgement} → j ≡ judged.Judgement g → {v : List ℕ} (part : List ℕ) → v ≡ report_bytes more_pollutants (judgement_is g)
+    pub wrote : {g : Judgement} → j ≡ Ok g → {v : List ℕ} (part : List ℕ) → v ≡ report_bytes more_pollutants (judgement_is g)
         → part ≡ take (size w) v → {l : List ℕ} → l ≡ part ++ drop (size w) o
         → (accepted ≡ report w b o) × (l ≡ reported w squarings b o)
     unfolding reported
     wrote {g} p part q f r =
         let s : report w b o ≡ accepted = answer-is ∙ ap judged_check p in
-        let c : check w b ≡ accepted = sym (judge-check w squarings b) ∙ sym (check-of w (judge w squarings b)) ∙ sym (ap check_in e) ∙ ap (λ (x : Judged). check_in (judged_is x)) p in
+        let c : check w b ≡ accepted = sym (judge-check w squarings b) ∙ sym (check-of w (judge w squarings b)) ∙ sym (ap check_in e) ∙ ap (λ (x : Result Judgement Refusal). check_in (judged_is x)) p in
         let six : judgement_is g ≡ six_pairs w (judge w squarings b) = rw p at e in
         let is : part ≡ report_bytes w (judge w squarings b) = f ∙ ap (take (size w)) (q ∙ ap (report_bytes more_pollutants) six) ∙ report-six z b c in
         (sym s, rw (r, s, is) refl)
 
 -- ---- by the size that a caller names
 
-module _ (s : ℕ) (b o : List ℕ) {n : Named} (e : n ≡ name_of s) where
-  pub report-unknown : n ≡ Unknown → report_sized s b o ≡ refused 30 0
+module _ (s : ℕ) (b o : List ℕ) {n : Result Size Reason} (e : n ≡ name_of s) where
+  pub report-unknown : {r : Reason} → n ≡ Err r → outcome_is (Err (refusal_of r)) ≡ report_sized s b o
   unfolding report_sized
-  report-unknown k = sym (unknown-size s e k _ (λ w. report w b o))
+  report-unknown k = rw (why-unknown s e k) (unknown-size s e k _ (λ w. report w b o))
 
-  pub reported-unknown : n ≡ Unknown → o ≡ reported_sized s squarings b o
+  pub reported-unknown : {r : Reason} → n ≡ Err r → o ≡ reported_sized s squarings b o
   unfolding reported_sized
   reported-unknown k = unknown-size s e k o (λ w. reported w squarings b o)
 
-  pub report-known : {z : Size} → n ≡ Known z → {a : Check} {held : List ℕ} → (a ≡ report (width_is z) b o) × (held ≡ reported (width_is z) squarings b o)
+  pub report-known : {z : Size} → n ≡ Ok z → {a : Check} {held : List ℕ} → (a ≡ report (width_is z) b o) × (held ≡ reported (width_is z) squarings b o)
       → (a ≡ report_sized s b o) × (held ≡ reported_sized s squarings b o)
   unfolding report_sized reported_sized
   report-known k h = (h.0 ∙ known-size s e k _ (λ w. report w b o), h.1 ∙ known-size s e k o (λ w. reported w squarings b o))

@@ -1,9 +1,10 @@
 -- Judging's answer as document 01's refusal.
+use Rattle.std.specs.Prelude.{Result, Ok, Err}
 use Rattle.rules.specs.Refusals.{Check, accepted, refused}
-use Rattle.series.specs.declared.Judged.{Judged}
-use Rattle.series.specs.declared.Judged.TheVariants as judged
+use Rattle.checking.specs.declared.Refusal.{Refusal}
+use Rattle.tally.specs.declared.Judgement.{Judgement}
 
 -- without what it says of an accepted sheet
-abbrev pub judged_check : Judged → Check
-judged_check (judged.Judgement j) = accepted
-judged_check (judged.Refused r) = refused r.number r.place
+abbrev pub judged_check : Result Judgement Refusal → Check
+judged_check (Ok j) = accepted
+judged_check (Err r) = refused r.number r.place

@@ -8,12 +8,12 @@ ghost use Rattle.rules.specs.Operations as rules;
 ghost use Rattle.rules.specs.Sizes.{report_sized, reported_sized};
 ghost use Rattle.tally.specs.Judgements.{judgement_is};
 ghost use Rattle.outcomes.specs.Outcomes.{outcome_is};
-ghost use Rattle.reporting.specs.Judging.{judged_check};
 
-use decisions::Decisions;
-use layout::{Named, Size};
-use outcomes::{Outcome, refused};
-use series::{Judged, judge_sheet};
+use checking::Refusal;
+use layout::Size;
+use pollutants::Each;
+use refusals::Reason;
+use series::judge_sheet;
 use tally::{Judgement, Numbers};
 
 // "16 as the mark of a report, verdict, ground, engine, four pairs of decision and engine, pollutant 1 first, eight zeros"; 02, F-10: "28 bytes with six pairs and twelve zeros".
@@ -27,7 +27,7 @@ fn values(judgement: Judgement) -> [u8; 28]
         engine,
         grounds,
     } = verdict.numbers();
-    let Decisions {
+    let Each {
         co,
         hc,
         nox,
@@ -73,32 +73,17 @@ fn values(judgement: Judgement) -> [u8; 28]
     ]
 }
 
-// Judging's answer without what it says of an accepted sheet.
-fn judged_outcome(judged: Judged) -> Outcome
-    ensures { outcome_is result ≡ judged_check judged }
-{
-    match judged {
-        Judged::Judgement(_) => Outcome::Done,
-        Judged::Refused(refusal) => Outcome::Refused(refusal),
-    }
-}
-
 // "Report writes 20 bytes, one for each value": "15, output under 20 bytes, record 0; then as judge. Bytes past 20 stay."; 02, F-10: "13 to 15 count 28 bytes for the new size".
-pub fn report(size: usize, sheet: &[u8], output: &mut [u8]) -> Outcome
+pub fn report(size: usize, sheet: &[u8], output: &mut [u8]) -> Result<(), Refusal>
     ensures result_value { outcome_is result ≡ report_sized size sheet.now output.old }
     ensures output_after { output.new ≡ reported_sized size squarings sheet.now output.old }
 {
     // "30, size not 20 or 28, before every other"
-    let Named::Known(size) = Size::of(size) else {
-        return refused(30);
-    };
+    let size = Size::try_from(size)?;
     if output.len() < size.bytes() {
-        return refused(15);
+        return Err(Reason::OutputLength.into());
     }
-    let judged = judge_sheet(size, sheet);
-    let Judged::Judgement(judgement) = judged else {
-        return judged_outcome(judged);
-    };
+    let judgement = judge_sheet(size, sheet)?;
     let values = values(judgement);
     // A number of the program for each size, so that no loop over the bytes is left.
     match size {
@@ -109,5 +94,5 @@ pub fn report(size: usize, sheet: &[u8], output: &mut [u8]) -> Outcome
             output[..Size::TWENTY_EIGHT].copy_from_slice(&values);
         }
     }
-    Outcome::Done
+    Ok(())
 }

@@ -10,11 +10,6 @@ other-line : (a b w : ℕ) → 1 ≤ b → 0 < a * a * w → 0 < b * b * w
 other-line a b zero h l = absurd (omega arith)
 other-line a b (suc w) h l = omega (arith, mul-le-mul h h)
 
--- of two numbers that are at most m, so is the one that is chosen
-pub chosen-most : {r m : ℕ} (t : Bool) (x y : ℕ) → r ≡ cond t x y → x ≤ m → y ≤ m → r ≤ m
-chosen-most true x y e h k = omega arith
-chosen-most false x y e h k = omega arith
-
 -- k is D without its sign
 module _ {last : Bool} {A B : ℤ} (numbers : RootNumbers last A B) (added taken w k : ℕ) (apart : k ≡ (added - taken) + (taken - added)) where
   abbrev D : ℤ

@@ -1,8 +1,8 @@
 -- What the crate `statistics` keeps the numbers of a row within.
-use Rattle.std.specs.Prelude.{◌≡◌, true, ℕ, ◌≤◌, ◌<◌, List, length, ℤ, nat_abs}
+use Rattle.std.specs.Prelude.{◌≡◌, true, ℕ, ◌≤◌}
 use Rattle.rules.specs.Plans.{Plan, attributes, last_row_lem}
 use Rattle.rules.specs.Refusals.{greatest_deviation}
-use Rattle.tables.specs.Tables.{entry_at, compares_roots, root_most}
+use Rattle.tables.specs.Tables.{compares_roots}
 
 -- plan 3: the number of a row
 pub record RowRange (n : ℕ) : Type 0 where
@@ -32,13 +32,3 @@ pub record RootRanges (plan : Plan) (n added taken : ℕ) : Type 0 where
   pub most : n ≤ last_row_lem plan
   pub added-most : added ≤ sum_most
   pub taken-most : taken ≤ sum_most
-
--- a number of a table without its sign
-pub record MagnitudeRange (a : ℕ) : Type 0 where
-  pub most : a ≤ root_most
-
--- a number of a table, at its place
-pub record EntryRange (t : List (List ℤ)) (i j : ℕ) : Type 0 where
-  pub row : i < length t
-  pub column : j < 2
-  pub most : nat_abs (entry_at t i j) ≤ root_most

@@ -3,19 +3,18 @@
 // Each returns as soon as the row is known: what is an argument is computed before the call, needed or not.
 #![tactic(auto)]
 
-ghost use Rattle.std.specs.Prelude.{◌≡◌, cond, not, ◌&&◌, ◌||◌, ◌+◌, ◌-◌, ◌*◌, eqb, ltb, pos, nat_abs, ◌-ℤ◌};
-ghost use Rattle.std.specs.Int.Signed.{lt_z};
+ghost use Rattle.std.specs.Prelude.{◌≡◌, not, ◌&&◌, ◌||◌, ◌*◌, eqb, ltb, pos, ◌-ℤ◌};
 ghost use Rattle.rules.specs.Logarithm.{squarings};
 ghost use Rattle.rules.specs.Plans as rules;
 ghost use Rattle.rows.specs.Row.{row_is};
 ghost use Rattle.plan.specs.Plan.{plan_is};
-ghost use Rattle.tables.specs.Tables.{Lent, entry_at, numbers_of_lem, PassNumbers, FailNumbers};
-ghost use Rattle.rows.specs.Ranges.{KnownRanges, RootRanges, MagnitudeRange, EntryRange, RowRange};
+ghost use Rattle.tables.specs.Tables.{Lent, numbers_of_lem, PassNumbers, FailNumbers};
+ghost use Rattle.rows.specs.Ranges.{KnownRanges, RootRanges, RowRange};
 
 use plan::Plan;
 
 // What a row says of one pollutant.
-#[derive(Clone, Copy)]
+#[derive(Clone, Copy, PartialEq, Eq)]
 pub enum Row {
     Open,
     Pass,
@@ -39,11 +38,11 @@ pub fn known_row(n: u64, table: &[[i32; 2]], added: u64, level: u64, deviation: 
         (eqb n (rules.last_row_lem rules.known_deviation_lem))
         (rules.known_fails squarings n (pos added -ℤ pos (n * level)) deviation) }
 {
-    let i = (n - 3) as usize;
+    let [a, b] = table[(n - 3) as usize];
     let unit = deviation * LOGARITHM_UNIT;
     let above = added * LOG_OF_TWO;
     let line = n * (level * LOG_OF_TWO);
-    let pass = magnitude_at(table, i, 0) * unit;
+    let pass = u64::from(a.unsigned_abs()) * unit;
     // A is below 0 in the last row, and in no other.
     if n == Plan::KNOWN_DEVIATION_LAST_ROW as u64 {
         return if above < line + pass {
@@ -55,7 +54,7 @@ pub fn known_row(n: u64, table: &[[i32; 2]], added: u64, level: u64, deviation: 
     if above + pass < line {
         return Row::Pass;
     }
-    let fail = magnitude_at(table, i, 1) * unit;
+    let fail = u64::from(b.unsigned_abs()) * unit;
     if line + fail < above {
         return Row::Fail;
     }
@@ -75,15 +74,15 @@ pub fn root_row(plan: Plan, n: u64, table: &[[i32; 2]], added: u64, taken: u64, 
         (eqb n (rules.last_row_lem (plan_is plan)))
         (rules.root_fails (numbers_of_lem (plan_is plan) n).B (pos added -ℤ pos taken) (pos spread)) }
 {
-    let i = (n - 3) as usize;
+    let [a, b] = table[(n - 3) as usize];
     let over = taken < added;
-    let p = 100000 * distance(added, taken);
-    let a = magnitude_at(table, i, 0);
-    if is_within(is_negative_at(table, i, 0), a, over, p, spread) {
+    let p = 100000 * added.abs_diff(taken);
+    if is_within(a < 0, a.unsigned_abs(), over, p, spread) {
         return Row::Pass;
     }
-    let x = chosen(over, magnitude_at(table, i, 1), a);
-    if wide::less(wide::product(p, p), wide::product(x * x, spread)) {
+    let x = if over { b } else { a };
+    let line = wide::product(square(x.unsigned_abs()), spread);
+    if wide::less(wide::product(p, p), line) {
         return if n == plan.last_row() as u64 {
             Row::Fail
         } else {
@@ -94,54 +93,19 @@ pub fn root_row(plan: Plan, n: u64, table: &[[i32; 2]], added: u64, taken: u64, 
 }
 
 // "for A ≥ 0, P ≤ 0 or P² ≤ A²W": whether A is such a number, and the row passes by it. A and P come without their signs.
-fn is_within(negative: bool, a: u64, over: bool, p: u64, spread: u64) -> bool
-    requires { MagnitudeRange a }
+fn is_within(negative: bool, a: u32, over: bool, p: u64, spread: u64) -> bool
     ensures { result ≡ not negative && (not over || not (ltb (a * a * spread) (p * p))) }
 {
     if negative {
         return false;
     }
-    !over | !wide::less(wide::product(a * a, spread), wide::product(p, p))
+    !over | !wide::less(wide::product(square(a), spread), wide::product(p, p))
 }
 
-// A number of a lent table without its sign: A of row i + 3 for j = 0, B for j = 1.
-fn magnitude_at(table: &[[i32; 2]], i: usize, j: usize) -> u64
-    requires { EntryRange table.now i j }
-    ensures { result ≡ nat_abs (entry_at table.now i j) }
+fn square(x: u32) -> u64
+    ensures { result ≡ x * x }
 {
-    magnitude(table[i][j])
-}
-
-// Whether it is below 0.
-fn is_negative_at(table: &[[i32; 2]], i: usize, j: usize) -> bool
-    requires { EntryRange table.now i j }
-    ensures { result ≡ lt_z (entry_at table.now i j) (pos 0) }
-{
-    table[i][j] < 0
-}
-
-fn magnitude(x: i32) -> u64
-    ensures { result ≡ nat_abs x }
-{
-    if x < 0 {
-        (-(x as i64)) as u64
-    } else {
-        x as u64
-    }
-}
-
-// D without its sign.
-fn distance(x: u64, y: u64) -> u64
-    ensures { result ≡ (x - y) + (y - x) }
-{
-    if x < y { y - x } else { x - y }
-}
-
-// x or y, without a branch.
-fn chosen(test: bool, x: u64, y: u64) -> u64
-    ensures { result ≡ cond test x y }
-{
-    if test { x } else { y }
+    u64::from(x) * u64::from(x)
 }
 
 // Plan 3, attributes: `over` is c, the number of engines over the limit; `pass` and `fail` are the plan's columns, lent.

@@ -1,87 +1,64 @@
 // The series: what judging answers for the bytes of a sheet, and its evidence.
 #![tactic(auto)]
 
-ghost use Rattle.std.specs.Prelude.{◌≡◌};
+ghost use Rattle.std.specs.Prelude.{◌≡◌, ◌≤◌, [], length, take, MatchResult};
 ghost use Rattle.rules.specs.Logarithm.{squarings};
+ghost use Rattle.rules.specs.Refusals.{accepted, refused};
 ghost use Rattle.rules.specs.Operations as rules;
 ghost use Rattle.rules.specs.Sizes as sizes;
 ghost use Rattle.layout.specs.Sizes.{width_is};
 ghost use Rattle.tally.specs.Judgements.{six_pairs};
-ghost use Rattle.series.specs.Answers.{judged_is, DeclaredIs, refusal_in};
+ghost use Rattle.series.specs.Answers.{judged_is, DeclaredIs};
 
-use checking::{Checked, Refusal, check_sheet};
-use layout::{Named, Size};
-use tally::{Judgement, Numbers, judgement_of};
+use checking::sheet::AcceptedSheet;
+use checking::{Refusal, check_sheet, why_refused};
+use layout::Size;
+use tally::{Judgement, judgement_of};
 
-// What judging answers: a judgement, or the refusal of a sheet that the check does not accept.
-#[derive(Clone, Copy)]
-pub enum Judged {
-    Judgement(Judgement),
-    Refused(Refusal),
-}
-
-// The refusal in the check's answer.
-fn refusal(checked: Checked) -> Refusal
-    ensures { result ≡ refusal_in checked }
-{
-    match checked {
-        Checked::Accepted(_) => Refusal {
-            number: 0,
-            place: 0,
-        },
-        Checked::Refused(r) => r,
-    }
-}
-
-// Judges the bytes of a sheet of that size, whatever they are.
-pub fn judge_sheet(size: Size, bytes: &[u8]) -> Judged
+// Judges the bytes of a sheet of that size, whatever they are: a judgement, or the refusal of a sheet that the check does not accept.
+pub fn judge_sheet(size: Size, bytes: &[u8]) -> Result<Judgement, Refusal>
     ensures result_value { judged_is result ≡ six_pairs (width_is size) (rules.judge (width_is size) squarings bytes.now) }
     ensures declared_is { DeclaredIs (width_is size) bytes.now result }
 {
     let checked = check_sheet(size, bytes);
-    let Checked::Accepted(sheet) = checked else {
-        return Judged::Refused(refusal(checked));
+    let Ok(said) = checked else {
+        return Err(why_refused(checked)); // "A sheet that the check refuses is refused by every other operation"
     };
-    Judged::Judgement(judgement_of(size, bytes, sheet))
+    Ok(judgement_of(AcceptedSheet { size, bytes, said }))
 }
 
 // The same by the bytes of a record, as a caller names them.
-pub fn judge(size: usize, bytes: &[u8]) -> Judged
+pub fn judge(size: usize, bytes: &[u8]) -> Result<Judgement, Refusal>
     ensures result_value { judged_is result ≡ six_pairs (sizes.width size) (sizes.judge_sized size squarings bytes.now) }
     ensures declared_is { DeclaredIs (sizes.width size) bytes.now result }
 {
-    let Named::Known(size) = Size::of(size) else {
-        return Judged::Refused(Refusal::of_size());
-    };
+    let size = Size::try_from(size)?;
     judge_sheet(size, bytes)
 }
 
-// "Evidence hands back the part of the sheet from its start"; a refusal "as judge, with an empty part": code gets its number × 256 + record, and 0 of an accepted sheet.
-pub fn evidence<'a>(size: usize, bytes: &'a [u8], code: &mut u32) -> &'a [u8]
-    ensures result_value { result.now ≡ sizes.evidence_sized size squarings bytes.now }
-    ensures code_after { code.new ≡ rules.code (sizes.check_sized size bytes.now) }
+// How many bytes of an accepted sheet are its evidence: "through the deciding engine's record; the whole sheet where undecided, stopped or
+// referred", and where held.
+fn evidence_end(sheet: AcceptedSheet) -> usize
+    ensures part { take result sheet.entry.bytes.now ≡ rules.evidence (width_is sheet.entry.size) squarings sheet.entry.bytes.now }
+    ensures inside { result ≤ length sheet.entry.bytes.now }
 {
-    let Named::Known(size) = Size::of(size) else {
-        *code = Refusal::of_size().code();
-        return &bytes[..0];
-    };
-    let checked = check_sheet(size, bytes);
-    let Checked::Accepted(sheet) = checked else {
-        *code = refusal(checked).code();
-        return &bytes[..0];
-    };
-    *code = 0;
-    let judgement = judgement_of(size, bytes, sheet);
-    let verdict = judgement.verdict;
-    let Numbers {
-        engine,
-        grounds,
-        ..
-    } = verdict.numbers();
-    // "through the deciding engine's record; the whole sheet where undecided, stopped or referred", and where held: the ground tells which
-    if (grounds == 1) | (grounds == 2) {
-        let end = size.bytes() * (sheet.head as usize + engine as usize);
-        return &bytes[..end];
+    let judgement = judgement_of(sheet);
+    match judgement.verdict.deciding() {
+        Some(n) => sheet.size.bytes() * (sheet.said.head as usize + n as usize),
+        None => sheet.bytes.len(),
     }
-    bytes
+}
+
+// "Evidence hands back the part of the sheet from its start"; a refusal "as judge", and then there is no part.
+pub fn evidence(size: usize, bytes: &[u8]) -> Result<&[u8], Refusal>
+    ensures part { MatchResult result (λ part. part.now ≡ sizes.evidence_sized size squarings bytes.now) (λ refusal. [] ≡ sizes.evidence_sized size squarings bytes.now) }
+    ensures answer { MatchResult result (λ part. accepted ≡ sizes.check_sized size bytes.now) (λ refusal. refused refusal.number refusal.place ≡ sizes.check_sized size bytes.now) }
+{
+    let size = Size::try_from(size)?;
+    let checked = check_sheet(size, bytes);
+    let Ok(said) = checked else {
+        return Err(why_refused(checked));
+    };
+    let end = evidence_end(AcceptedSheet { size, bytes, said });
+    Ok(&bytes[..end])
 }

@@ -3,17 +3,20 @@
 
 ghost use Rattle.std.specs.Prelude.{◌≡◌};
 ghost use Rattle.rules.specs.Refusals.{bad_date_lem};
+ghost use Rattle.refusals.specs.Numbers.{fault_number};
 ghost use Rattle.small_engines.specs.SmallEngines.{bad_particulate_by, small_engine_fault_lem};
 
 use calendar::is_day;
 use particulates::particulate_limit;
 use plan::Plan;
-use record::POLLUTANT;
+use record::Kind;
 use record::small_engine::{date_of, speed_of, volume_of};
+use refusals::Reason;
 use summary::Summary;
 use zeros::small_engine_unused;
 
 // "17, date not in the Gregorian calendar of years 1 to 9999"
+#[tactic(auto, unfolding(rules::specs::Refusals::bad_date_lem))]
 fn bad_date(r: &[u8]) -> bool
     ensures { result ≡ bad_date_lem r.now }
 {
@@ -21,6 +24,7 @@ fn bad_date(r: &[u8]) -> bool
 }
 
 // "18, .. a declared particulate limit not the rule's", of the limit, which is 0 where none is declared.
+#[tactic(auto, unfolding(crate::specs::SmallEngines::bad_particulate_by))]
 fn bad_particulate(limit: u32, r: &[u8]) -> bool
     ensures { result ≡ bad_particulate_by limit r.now }
 {
@@ -29,25 +33,26 @@ fn bad_particulate(limit: u32, r: &[u8]) -> bool
 }
 
 // The refusal of a small engine.
-pub fn small_engine_fault(s: Summary, r: &[u8], rest: bool) -> u8
-    ensures { result ≡ small_engine_fault_lem s r.now rest }
+#[tactic(auto, unfolding(crate::specs::SmallEngines::small_engine_fault_lem))]
+pub fn small_engine_fault(s: Summary, r: &[u8], rest: bool) -> Result<(), Reason>
+    ensures { fault_number result ≡ small_engine_fault_lem s r.now rest }
 {
     let limits = s.limits;
     if s.misplaces_others() {
-        return 3;
+        return Err(Reason::Order);
     }
     // "16, a second kind 5, one elsewhere or in plan 4": behind a pollutant it is the first
-    if (s.kind != POLLUTANT) | (s.plan == Plan::IN_SERVICE) {
-        return 16;
+    if (s.kind != Kind::Pollutant as u32) | (s.plan == Plan::InService as u32) {
+        return Err(Reason::SmallEngine);
     }
     if bad_date(r) {
-        return 17;
+        return Err(Reason::Date);
     }
     if bad_particulate(limits.pm, r) {
-        return 18;
+        return Err(Reason::ParticulateLimit);
     }
     if small_engine_unused(r, rest) {
-        return 12;
+        return Err(Reason::UnusedByte);
     }
-    0
+    Ok(())
 }

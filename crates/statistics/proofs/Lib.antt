@@ -1,2 +1,4 @@
 pub mod Sums
 pub mod Going
+pub mod Counting
+pub mod Summing

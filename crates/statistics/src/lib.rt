@@ -10,9 +10,10 @@ mod logarithms;
 
 use corrections::correction_of;
 use decisions::Decision;
+use fours::measured::MeasuredColumn;
 use layout::Size;
 use plan::Plan;
-use tables::{corrected, in_service, known_deviation, unknown_deviation};
+use tables::table_of;
 
 // The decision of a pollutant after the rows to `rows`, none of which ends the series before its statistics.
 // For `tally` alone, with a declared pollutant of a sheet that the check accepts: so it may require.
@@ -34,32 +35,16 @@ pub fn column(
         return Decision::Open;
     }
     let correction = correction_of(size, bytes, start, number);
-    // Plan 3 counts the engines over the limit, and the others take logarithms. A table is chosen here, once for a column, and lent whole.
-    match plan {
-        Plan::KnownDeviation => {
-            let table = known_deviation();
-            logarithms::column(
-                size, bytes, start, plan, number, limit, correction, deviation, rows, &table,
-            )
-        }
-        Plan::UnknownDeviation => {
-            let table = unknown_deviation();
-            logarithms::column(
-                size, bytes, start, plan, number, limit, correction, deviation, rows, &table,
-            )
-        }
-        Plan::Attributes => count::column(size, bytes, start, number, limit, correction, rows),
-        Plan::InService => {
-            let table = in_service();
-            logarithms::column(
-                size, bytes, start, plan, number, limit, correction, deviation, rows, &table,
-            )
-        }
-        Plan::Corrected => {
-            let table = corrected();
-            logarithms::column(
-                size, bytes, start, plan, number, limit, correction, deviation, rows, &table,
-            )
-        }
+    let column = MeasuredColumn {
+        size,
+        bytes,
+        start,
+        number,
+        rows,
+    };
+    // Plan 3, which has no table, counts the engines over the limit; the others take logarithms. A table is chosen here, once for a column, and lent whole.
+    match table_of(plan) {
+        Some(table) => logarithms::column(column, plan, limit, correction, deviation, table),
+        None => count::column(column, limit, correction),
     }
 }

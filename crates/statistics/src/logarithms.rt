@@ -1,15 +1,15 @@
 // Plans 1, 2, 4 and 5: the sums of the measurements' logarithms and of their squares, and the rows by them.
 ghost use Rattle.plan.specs.Plan.{plan_is};
-ghost use Rattle.layout.specs.Sizes.{width_is};
 ghost use Rattle.tables.specs.Tables.{Lent};
-ghost use Rattle.statistics.specs.Column.{ColumnIs, RowFrom};
-ghost use Rattle.statistics.specs.Ranges.{RowRange, LogarithmsRange};
+ghost use Rattle.statistics.specs.Column.{RowFrom};
+ghost use Rattle.statistics.specs.Columns.{LogarithmsIn, DecidesIn};
+ghost use Rattle.statistics.specs.Ranges.{RowRange};
 
 use causes::first_row;
 use corrections::{Correction, log2_of};
 use decisions::Decision;
+use fours::measured::MeasuredColumn;
 use fours::{four_with, put_four};
-use layout::Size;
 use plan::Plan;
 use rows::Row;
 
@@ -39,37 +39,32 @@ fn row(
 
 // A column of these plans, by the plan's table: the sums stand in locals, and the logarithms come in fours.
 pub(crate) fn column(
-    size: Size,
-    bytes: &[u8],
-    start: usize,
+    column: MeasuredColumn,
     plan: Plan,
-    number: u32,
     limit: u32,
     correction: Correction,
     deviation: u32,
-    rows: usize,
     table: &[[i32; 2]],
 ) -> Decision
-    requires logarithms_range { LogarithmsRange (width_is size) bytes.now start plan number limit correction deviation rows }
+    requires logarithms_range { LogarithmsIn column plan limit correction deviation }
     requires lent { Lent (plan_is plan) table.now }
-    ensures { ColumnIs (width_is size) plan bytes.now number limit deviation rows result }
+    ensures { DecidesIn column.entry plan limit deviation result }
 {
-    let first = first_row(size, bytes, start, plan);
+    let first = first_row(column.size, column.bytes, column.start, plan);
     let mut logs = [0u32; 4];
-    put_four(&mut logs, limit, size, bytes, start, number, rows, 0);
+    put_four(&mut logs, limit, column, 0);
     let gain = log2_of(correction.value) as u64;
     let level = logs[0] as u64 + log2_of(correction.first) as u64;
     let mut sum: u64 = 0;
     let mut squares: u64 = 0;
-    let mut n: usize = 0;
-    while n < rows {
-        four_with(&mut logs, size, bytes, start, number, rows, n);
-        n += 1;
+    for i in 0..column.rows {
+        four_with(&mut logs, column, i);
+        let n = i + 1;
         let y = logs[n % 4] as u64;
         sum = sum + y;
         squares = squares + y * y;
         if first <= n {
-            let row = row(
+            match row(
                 plan,
                 n as u64,
                 sum,
@@ -78,8 +73,7 @@ pub(crate) fn column(
                 level,
                 deviation as u64,
                 table,
-            );
-            match row {
+            ) {
                 Row::Open => {}
                 Row::Pass => {
                     return Decision::Passed(n as u8);

@@ -3,8 +3,8 @@ use Rattle.std.specs.Prelude.{ℕ, ◌+◌, ◌≤◌, ◌<◌, Bool, ◌||◌, 
 use Rattle.rules.specs.Logarithm.{greatest}
 use Rattle.rules.specs.Sheet.{Record, pollutant_kind, engine_kind, stop_kind, small_engine_kind, run_in_kind, kind, number, plan, limit}
 use Rattle.rules.specs.Plans.{in_service_lem, number_of, plan_of, last_row_lem}
-use Rattle.record.specs.declared.Quantities.{Quantities}
-use Rattle.record.specs.Quantities.{quantities_with}
+use Rattle.pollutants.specs.declared.Each.{Each}
+use Rattle.pollutants.specs.Each.{all_lem, with_lem}
 use Rattle.summary.specs.declared.Summary.{Summary}
 
 -- no record yet
@@ -15,7 +15,7 @@ nothing =
       plan = 0;
       last_row = 0;
       number = 0;
-      limits = record { co = 0; hc = 0; nox = 0; pm = 0; fifth = 0; sixth = 0 };
+      limits = all_lem 0;
       pollutants = 0;
       head = 0;
       engines = 0;
@@ -29,7 +29,7 @@ summary_with s r =
       plan = cond (eqb (kind r) pollutant_kind) (plan r) s.plan;
       last_row = cond (eqb (kind r) pollutant_kind) (last_row_lem (plan_of (plan r))) s.last_row;
       number = cond (eqb (kind r) pollutant_kind) (number r) s.number;
-      limits = cond (eqb (kind r) pollutant_kind) (quantities_with s.limits (number r) (limit r)) s.limits;
+      limits = cond (eqb (kind r) pollutant_kind) (with_lem s.limits (number r) (limit r)) s.limits;
       pollutants = cond (eqb (kind r) pollutant_kind) (s.pollutants + 1) s.pollutants;
       head = cond (eqb (kind r) pollutant_kind || (eqb (kind r) small_engine_kind || eqb (kind r) run_in_kind)) (s.head + 1) s.head;
       engines = cond (eqb (kind r) engine_kind) (s.engines + 1) s.engines;
@@ -54,7 +54,7 @@ pub record LimitRange (limit : ℕ) : Type 0 where
   pub most : limit ≤ greatest
 
 -- the limits of pollutants that have no fault
-pub record Limits (limits : Quantities) : Type 0 where
+pub record Limits (limits : Each ℕ) : Type 0 where
   pub co : LimitRange limits.co
   pub hc : LimitRange limits.hc
   pub nox : LimitRange limits.nox

@@ -1,10 +1,14 @@
 -- What is read in a table for a row is the row's number in the definitions; its signs and its size. A table is checked as a whole, by computing it.
 use Rattle.arithmetic.proofs.Basics.{◌≡◌, refl, sym, ◌∙◌, subst, List, [], map, ℕ, zero, suc, ◌+◌, ◌-◌, ◌≤◌, ◌<◌, arith, length, length-map, get_or, ap}
 use Rattle.arithmetic.proofs.Basics.{Bool, true, cond, ◌&&◌, never, and-true, leb, leb-true, eqb, ℤ, pos, neg_ℤ, nat_abs}
+use Rattle.std.specs.Prelude.{Some, None, is_some, unwrap_or}
 use Rattle.arithmetic.proofs.Tables.{entry, column}
 use Rattle.rules.specs.Plans.{Plan, known_deviation_lem, unknown_deviation_lem, attributes, in_service_lem, corrected, last_row_lem, known_a, known_b, unknown_numbers}
 use Rattle.rules.specs.Plans.{in_service_numbers, corrected_numbers, attributes_passes, attributes_fails}
-use Rattle.tables.specs.Tables.{rows_from, numbers_of_lem, row_of, Lent, entry_at, known_most, compares_roots, root_most, RootNumbers}
+use Rattle.plan.specs.declared.Plan as program
+use Rattle.plan.specs.declared.Plan.TheVariants.{KnownDeviation, UnknownDeviation, Attributes, InService, Corrected}
+use Rattle.plan.specs.Plan.{plan_is}
+use Rattle.tables.specs.Tables.{rows_from, numbers_of_lem, row_of, table_named, Lent, entry_at, known_most, compares_roots, root_most, RootNumbers}
 use Rattle.tables.specs.Tables.{PassNumbers, FailNumbers}
 
 -- ---- what is said of the rows of a table is said of each of them
@@ -25,7 +29,23 @@ each_row f g k count e n h l =
     subst (λ (r : ℕ). f r ≡ g r) (row_at k count (n - k) i ∙ omega arith)
     (column f g (rows_from k count) (rows_from k count) e (n - k) (rw (length-rows k count) i) 0 0)
 
--- ---- plans 1, 2, 4 and 5: row n of a table that a caller lends
+-- ---- plans 1, 2, 4 and 5: the table that a caller has of `table_of`, to lend; where it has none, the plan is 3
+
+pub lent-named : {t : List (List ℤ)} (plan : Plan) → Some t ≡ table_named plan → Lent plan t
+lent-named known_deviation_lem e = record { holds = ap (λ o. unwrap_or o []) e }
+lent-named unknown_deviation_lem e = record { holds = ap (λ o. unwrap_or o []) e }
+lent-named attributes e = never (ap is_some e)
+lent-named in_service_lem e = record { holds = ap (λ o. unwrap_or o []) e }
+lent-named corrected e = record { holds = ap (λ o. unwrap_or o []) e }
+
+pub none-named : (plan : program.Plan) → None ≡ table_named (plan_is plan) → plan ≡ Attributes
+none-named KnownDeviation e = never (ap is_some (sym e))
+none-named UnknownDeviation e = never (ap is_some (sym e))
+none-named Attributes e = refl
+none-named InService e = never (ap is_some (sym e))
+none-named Corrected e = never (ap is_some (sym e))
+
+-- ---- row n of it
 
 module _ {plan : Plan} {t : List (List ℤ)} (lent : Lent plan t) where
   pub rows_are : length t ≡ last_row_lem plan - 2

@@ -1,5 +1,5 @@
 -- What the program's tables hold: the numbers of the definitions' rows.
-use Rattle.std.specs.Prelude.{◌≡◌, Bool, true, false, List, [], ◌∷◌, map, ℕ, zero, suc, ◌-◌, ◌≤◌, leb, get_or, ℤ, pos, nat_abs}
+use Rattle.std.specs.Prelude.{◌≡◌, Bool, true, false, Option, Some, None, List, [], ◌∷◌, map, ℕ, zero, suc, ◌-◌, ◌≤◌, leb, get_or, ℤ, pos, nat_abs}
 use Rattle.rules.specs.Plans.{Plan, known_deviation_lem, unknown_deviation_lem, attributes, in_service_lem, corrected, last_row_lem, Numbers, known_a, known_b, unknown_numbers, in_service_numbers, corrected_numbers}
 use Rattle.rules.specs.Plans.{attributes_passes, attributes_fails}
 
@@ -24,6 +24,14 @@ row_of plan n = (numbers_of_lem plan n).A ∷ (numbers_of_lem plan n).B ∷ []
 -- the rows from 3 to the plan's last
 abbrev pub table_of : Plan → List (List ℤ)
 table_of plan = map (row_of plan) (rows_from 3 (last_row_lem plan - 2))
+
+-- the same, of the plans that have such a table: plan 3 has none
+abbrev pub table_named : Plan → Option (List (List ℤ))
+table_named known_deviation_lem = Some (table_of known_deviation_lem)
+table_named unknown_deviation_lem = Some (table_of unknown_deviation_lem)
+table_named attributes = None
+table_named in_service_lem = Some (table_of in_service_lem)
+table_named corrected = Some (table_of corrected)
 
 -- a table that a caller lends is the plan's
 pub record Lent (plan : Plan) (t : List (List ℤ)) : Type 0 where

@@ -1,13 +1,14 @@
 // The printed tables of the plans: each row of print on a line, its signs as printed, with its number behind it.
-// A caller takes the table of its plan and lends it to the rows, because an array that is a constant is built anew at each use.
 #![tactic(auto)]
 
-ghost use Rattle.std.specs.Prelude.{◌≡◌};
-ghost use Rattle.rules.specs.Plans as rules;
-ghost use Rattle.tables.specs.Tables.{table_of, PassNumbers, FailNumbers};
+ghost use Rattle.std.specs.Prelude.{◌≡◌, option_copied};
+ghost use Rattle.plan.specs.Plan.{plan_is};
+ghost use Rattle.tables.specs.Tables.{table_named, PassNumbers, FailNumbers};
+
+use plan::Plan;
 
 // Plan 1: 001, Appendix 1, Table I.1.5. A and B in thousandths.
-const PLAN_1: [[i32; 2]; 30] = [
+static PLAN_1: [[i32; 2]; 30] = [
     [3327, -4724], // 3
     [3261, -4790], // 4
     [3195, -4856], // 5
@@ -41,7 +42,7 @@ const PLAN_1: [[i32; 2]; 30] = [
 ];
 
 // Plan 2: 001, Appendix 2, Table I.2.5. A and B in hundred-thousandths.
-const PLAN_2: [[i32; 2]; 30] = [
+static PLAN_2: [[i32; 2]; 30] = [
     [-80381, 1664743], // 3
     [-76339, 768627], // 4
     [-72982, 467136], // 5
@@ -77,13 +78,13 @@ const PLAN_2: [[i32; 2]; 30] = [
 
 // Plan 3: 001, Appendix 3, Table I.3.5. Row 3 has no pass number: that column begins with row 4.
 // Row                         4  5  6  7  8  9 10 11 12 13 14 15 16 17 18 19
-const PLAN_3_PASS: [u8; 16] = [0, 0, 1, 1, 2, 2, 3, 3, 4, 4, 5, 5, 6, 6, 7, 8];
+static PLAN_3_PASS: [u8; 16] = [0, 0, 1, 1, 2, 2, 3, 3, 4, 4, 5, 5, 6, 6, 7, 8];
 
 // Row                         3  4  5  6  7  8  9 10 11 12 13 14 15  16  17  18 19
-const PLAN_3_FAIL: [u8; 17] = [3, 4, 4, 5, 5, 6, 6, 7, 7, 8, 8, 9, 9, 10, 10, 11, 9];
+static PLAN_3_FAIL: [u8; 17] = [3, 4, 4, 5, 5, 6, 6, 7, 7, 8, 8, 9, 9, 10, 10, 11, 9];
 
 // Plan 4: 000, Appendix 1, Table 1, "Rows as plan 2 up to 14; at 15, A is 15474."
-const PLAN_4: [[i32; 2]; 13] = [
+static PLAN_4: [[i32; 2]; 13] = [
     [-80381, 1664743], // 3
     [-76339, 768627], // 4
     [-72982, 467136], // 5
@@ -101,7 +102,7 @@ const PLAN_4: [[i32; 2]; 13] = [
 ];
 
 // Plan 5: the corrected sheet of 02, F-6: "A is 449 at 31, A and B are 3876 at 32", "otherwise as plan 2". 004 prints the same numbers, Table I/-/9.3.5.
-const PLAN_5: [[i32; 2]; 30] = [
+static PLAN_5: [[i32; 2]; 30] = [
     [-80381, 1664743], // 3
     [-76339, 768627], // 4
     [-72982, 467136], // 5
@@ -134,44 +135,30 @@ const PLAN_5: [[i32; 2]; 30] = [
     [3876, 3876], // 32
 ];
 
-// Plan 1's table, for a caller to lend.
-pub fn known_deviation() -> [[i32; 2]; 30]
-    ensures { result ≡ table_of rules.known_deviation_lem }
+// The table of a plan, for a caller to lend: plan 3 has none, its pass and fail numbers are below.
+#[tactic(auto, unfolding(rules::specs::Plans::unknown_numbers, rules::specs::Plans::in_service_numbers, rules::specs::Plans::corrected_numbers))]
+pub fn table_of(plan: Plan) -> Option<&'static [[i32; 2]]>
+    ensures { option_copied result ≡ table_named (plan_is plan) }
 {
-    PLAN_1
-}
-
-// Plan 2's.
-pub fn unknown_deviation() -> [[i32; 2]; 30]
-    ensures { result ≡ table_of rules.unknown_deviation_lem }
-{
-    PLAN_2
-}
-
-// Plan 4's, of the rows 3 to 15.
-pub fn in_service() -> [[i32; 2]; 13]
-    ensures { result ≡ table_of rules.in_service_lem }
-{
-    PLAN_4
-}
-
-// Plan 5's.
-pub fn corrected() -> [[i32; 2]; 30]
-    ensures { result ≡ table_of rules.corrected }
-{
-    PLAN_5
+    match plan {
+        Plan::KnownDeviation => Some(&PLAN_1),
+        Plan::UnknownDeviation => Some(&PLAN_2),
+        Plan::Attributes => None,
+        Plan::InService => Some(&PLAN_4),
+        Plan::Corrected => Some(&PLAN_5),
+    }
 }
 
 // Plan 3's pass numbers, of the rows 4 to 19.
-pub fn pass_numbers() -> [u8; 16]
-    ensures { PassNumbers result }
+pub fn pass_numbers() -> &'static [u8; 16]
+    ensures { PassNumbers result.now }
 {
-    PLAN_3_PASS
+    &PLAN_3_PASS
 }
 
 // Plan 3's fail numbers, of the rows 3 to 19.
-pub fn fail_numbers() -> [u8; 17]
-    ensures { FailNumbers result }
+pub fn fail_numbers() -> &'static [u8; 17]
+    ensures { FailNumbers result.now }
 {
-    PLAN_3_FAIL
+    &PLAN_3_FAIL
 }

@@ -25,8 +25,10 @@ use Rattle.columns.proofs.Marks.{marked_next}
 use Rattle.causes.specs.declared.Gate.{Gate}
 use Rattle.causes.specs.Causes.{gate_is, before_in, gate_of_lem}
 use Rattle.decisions.specs.declared.Decision.{Decision}
-use Rattle.decisions.specs.declared.Decisions.{Decisions}
-use Rattle.decisions.specs.Decisions.{no_decisions, decision_is, declared_is_lem, decisions_with}
+use Rattle.decisions.specs.declared.Decision.TheVariants.{Undeclared}
+use Rattle.pollutants.specs.declared.Each.{Each}
+use Rattle.pollutants.specs.Each.{all_lem, with_lem}
+use Rattle.decisions.specs.Decisions.{decision_is, declared_is_lem}
 use Rattle.statistics.specs.Column.{ColumnIs}
 use Rattle.statistics.specs.Ranges.{ColumnRange}
 use Rattle.decisions.proofs.Placing.{with-declared}
@@ -79,7 +81,7 @@ module _ {z : Size} {b : List ℕ} {s : Summary} {plan : Plan} {g : Gate} (o : O
   each : (p : Pollutant) → Column (columns_of (width_is z) plan b p)
   each p = is-column (before_in (width_is z) (plan_is plan) b) (row_of (plan_is plan) (run_ins_in (width_is z) b) squarings (engines_in (width_is z) b) p)
 
-  pub kept-none : {rows : ℕ} {ds : Decisions} → rows ≡ rows_of (gate_is g) → ds ≡ no_decisions
+  pub kept-none : {rows : ℕ} {ds : Each Decision} → rows ≡ rows_of (gate_is g) → ds ≡ all_lem Undeclared
       → Kept z b s.pollutants plan g 0 (record { rows = rows; latest = 0; failed = false; waits = false; decisions = ds })
   unfolding columns.started
   kept-none re de = rw (re, de) (record { few = omega arith; lower = omega arith; left = refl; marks = refl })
@@ -104,7 +106,7 @@ module _ {z : Size} {b : List ℕ} {s : Summary} {plan : Plan} {g : Gate} (o : O
         }
 
     pub kept_more : {x : Decision} → ColumnIs (width_is z) plan b n L d t.rows x → {u : Tally}
-        → (tally_is u ≡ columns.counted n (decision_is x) (tally_is t)) × (u.decisions ≡ decisions_with n x t.decisions)
+        → (tally_is u ≡ columns.counted n (decision_is x) (tally_is t)) × (u.decisions ≡ with_lem t.decisions n x)
         → Kept z b s.pollutants plan g (k + 1) u
     kept_more {x} xe {u} ue =
         let p : Pollutant = record { number = n; limit = L; deviation = d } in

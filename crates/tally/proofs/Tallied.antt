@@ -25,7 +25,8 @@ use Rattle.causes.specs.Causes.{gate_is, before_in}
 use Rattle.causes.specs.Ranges.{GateRange}
 use Rattle.plan.specs.declared.Plan.{Plan}
 use Rattle.plan.specs.Plan.{plan_is}
-use Rattle.decisions.specs.declared.Decisions.{Decisions}
+use Rattle.pollutants.specs.declared.Each.{Each}
+use Rattle.decisions.specs.declared.Decision.{Decision}
 use Rattle.decisions.specs.Decisions.{decisions_is, declared_is_lem}
 use Rattle.tally.specs.declared.Verdict.{Verdict}
 use Rattle.tally.specs.declared.Tally.{Tally}
@@ -52,7 +53,7 @@ module _ {z : Size} {b : List ℕ} {s : Summary} {plan : Plan} where
 
     pub judged-so : {k : ℕ} {t : Tally} → Kept z b s.pollutants plan g k t → s.pollutants ≤ k
         → {v : Verdict} → VerdictIs t g (eqb s.kind stop_kind) s.engines v
-        → {ds : Decisions} → (decisions_is ds ≡ map (up_to t.rows) (decisions_is t.decisions)) × (declared_is_lem ds ≡ declared_is_lem t.decisions)
+        → {ds : Each Decision} → (decisions_is ds ≡ map (up_to t.rows) (decisions_is t.decisions)) × (declared_is_lem ds ≡ declared_is_lem t.decisions)
         → JudgementIs (width_is z) b (record { verdict = v; decisions = ds })
     unfolding judge_by_tally tallied
     judged-so {k} {t} kept l {v} ve {ds} de =

@@ -4,21 +4,21 @@
 ghost use Rattle.std.specs.Prelude.{◌≡◌};
 ghost use Rattle.columns.specs.Tally.{counted};
 ghost use Rattle.layout.specs.Sizes.{width_is};
-ghost use Rattle.checking.specs.Check.{Valid};
-ghost use Rattle.decisions.specs.Decisions.{decision_is, decisions_with};
-ghost use Rattle.tally.specs.Judgements.{numbers_of_lem, JudgementIs};
+ghost use Rattle.pollutants.specs.Each.{with_lem};
+ghost use Rattle.decisions.specs.Decisions.{decision_is};
+ghost use Rattle.tally.specs.Judgements.{numbers_of_lem, deciding_lem, JudgementIs};
 ghost use Rattle.tally.specs.Tally.{tally_is, VerdictIs, GateFits};
 
 use causes::{Gate, gate_of};
-use decisions::{Decision, Decisions};
-use layout::Size;
+use checking::sheet::AcceptedSheet;
+use decisions::{Decision, up_to};
 use plan::Plan;
-use record::{STOP, deviation_of, limit_of, number_of, record_at};
+use pollutants::Each;
+use record::{Kind, deviation_of, limit_of, number_of, record_at};
 use statistics::column;
-use summary::Summary;
 
 // A verdict with its engine; for another, the engines so far, and for held the row. A fail has its ground in its name.
-#[derive(Clone, Copy)]
+#[derive(Clone, Copy, PartialEq, Eq)]
 pub enum Verdict {
     Another(u8),
     Pass(u8),
@@ -30,7 +30,7 @@ pub enum Verdict {
 }
 
 // "verdict (0 another, 1 pass, 2 fail, 3 referred), engine (for another, the engines so far), ground (0 none, 1 a row, 2 equal cause, 3 stopped, 4 referred)"; 02, F-5: "the verdict is 4, printed `held`, at that row with ground 5"
-#[derive(Clone, Copy)]
+#[derive(Clone, Copy, PartialEq, Eq)]
 pub struct Numbers {
     pub verdict: u8,
     pub engine: u8,
@@ -62,13 +62,28 @@ impl Verdict {
             Verdict::Held(n) => numbered(4, n, 5),
         }
     }
+
+    // The engine whose record decides; none where undecided, stopped or referred, and where held.
+    pub fn deciding(self) -> Option<u8>
+        ensures { result ≡ deciding_lem self }
+    {
+        match self {
+            Verdict::Another(_) => None,
+            Verdict::Pass(n) => Some(n),
+            Verdict::FailByRow(n) => Some(n),
+            Verdict::FailByCause(n) => Some(n),
+            Verdict::FailByStop(_) => None,
+            Verdict::Referred(_) => None,
+            Verdict::Held(_) => None,
+        }
+    }
 }
 
 // What is said of an accepted sheet: the verdict, and a decision for each pollutant.
 #[derive(Clone, Copy)]
 pub struct Judgement {
     pub verdict: Verdict,
-    pub decisions: Decisions,
+    pub decisions: Each<Decision>,
 }
 
 // What the columns so far say: the rows that count for the next, the latest pass, whether one has failed or is open, and the decisions.
@@ -78,35 +93,26 @@ pub struct Tally {
     pub latest: u8,
     pub failed: bool,
     pub waits: bool,
-    pub decisions: Decisions,
+    pub decisions: Each<Decision>,
 }
 
 impl Tally {
     // With the column of the pollutant of that number.
     fn with(self, number: u32, d: Decision) -> Tally
-        ensures { (tally_is result ≡ counted number (decision_is d) (tally_is self)) × (result.decisions ≡ decisions_with number d self.decisions) }
+        ensures { (tally_is result ≡ counted number (decision_is d) (tally_is self)) × (result.decisions ≡ with_lem self.decisions number d) }
     {
-        let before = self.decisions;
-        let decisions = before.with(number, d);
-        let waiting = Tally {
-            waits: true,
-            decisions,
-            ..self
-        };
+        let decisions = self.decisions.with(number, d);
         match d {
-            Decision::Undeclared => waiting,
-            Decision::Open => waiting,
-            Decision::Passed(n) => {
-                if self.latest < n {
-                    Tally {
-                        latest: n,
-                        decisions,
-                        ..self
-                    }
-                } else {
-                    Tally { decisions, ..self }
-                }
-            }
+            Decision::Undeclared | Decision::Open => Tally {
+                waits: true,
+                decisions,
+                ..self
+            },
+            Decision::Passed(n) => Tally {
+                latest: self.latest.max(n),
+                decisions,
+                ..self
+            },
             Decision::Failed(n) => Tally {
                 rows: n,
                 failed: true,
@@ -143,24 +149,22 @@ impl Tally {
 }
 
 // The judgement of a sheet that the check accepts: the columns of its declared pollutants, which are its first records, and the verdict on them together.
-// For `series` alone, which hands on what the check says of the sheet: so it may require.
-pub fn judgement_of(size: Size, bytes: &[u8], sheet: Summary) -> Judgement
-    requires { Valid size bytes.now sheet }
-    ensures { JudgementIs (width_is size) bytes.now result }
+pub fn judgement_of(sheet: AcceptedSheet) -> Judgement
+    ensures { JudgementIs (width_is sheet.entry.size) sheet.entry.bytes.now result }
 {
-    let plan = Plan::of(sheet.plan);
-    let declared = sheet.pollutants as usize;
-    let start = sheet.head as usize;
-    let gate = gate_of(size, bytes, start, sheet.engines as usize, plan);
+    let AcceptedSheet { size, bytes, said } = sheet;
+    let plan = Plan::of(said.plan);
+    let declared = said.pollutants as usize;
+    let start = said.head as usize;
+    let gate = gate_of(size, bytes, start, said.engines as usize, plan);
     let mut t = Tally {
         rows: gate.rows(),
         latest: 0,
         failed: false,
         waits: false,
-        decisions: Decisions::none(),
+        decisions: Each::all(Decision::Undeclared),
     };
-    let mut k: usize = 0;
-    while k < declared {
+    for k in 0..declared {
         let r = record_at(size, bytes, k);
         let number = number_of(r);
         let d = column(
@@ -174,12 +178,10 @@ pub fn judgement_of(size: Size, bytes: &[u8], sheet: Summary) -> Judgement
             t.rows as usize,
         );
         t = t.with(number, d);
-        k += 1;
     }
-    let decisions = t.decisions;
     // decisions later than the least failing row are open
     Judgement {
-        verdict: t.verdict(gate, sheet.kind == STOP, sheet.engines as u8),
-        decisions: decisions.up_to(t.rows),
+        verdict: t.verdict(gate, said.kind == Kind::Stop as u32, said.engines as u8),
+        decisions: up_to(t.decisions, t.rows),
     }
 }

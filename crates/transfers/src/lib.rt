@@ -1,44 +1,27 @@
 // Reading and writing by calls of std's `Read` and `Write`, so that a call which fails is never taken for the end: one that may be made again is, and else the whole fails.
 #![tactic(auto)]
 
-ghost use Rattle.std.specs.Prelude.{◌≡◌, ◌<◌, ◌^◌, length, take, IfOk};
-ghost use Rattle.transfers.specs.Transfers.{answer, further, next, Place, Room, Over};
-ghost use Rattle.transfers.specs.Calls.{number, answered};
-ghost use Rattle.transfers.specs.Bytes.{Gives, Takes, IsTold, HasRead, HasWritten, TellsWhy};
+ghost use Rattle.std.specs.Prelude.{◌≡◌, ◌≤◌, ℕ, length, take, IfOk, refl, ⊤};
+ghost use Rattle.std.specs.Io.KnownBytes.{Consumes, Appends, IsAtEnd};
+ghost use Rattle.std.proofs.KnownBytes.{Consumes-nil, Appends-nil};
+ghost use Rattle.transfers.specs.Transfers.{pause_before, further, again, next, Room, Over};
+ghost use Rattle.transfers.specs.Bytes.{MovedOn, HasMoved, HasRead, HasWritten};
 
 use std::io::{ErrorKind, Read, Write};
+use std::ops::ControlFlow;
 use std::time::{Clock, Duration};
 use std::{io, thread};
 
-// Linux's numbers of a call that a signal interrupts, and of one that would have to wait.
-const EINTR: i32 = 4;
-
-const EAGAIN: i32 = 11;
-
-// What a call of `read` or `write` answered.
-#[derive(Drop)]
-pub enum Answer {
-    // So many bytes were moved.
-    Moved(usize),
-    // None was: a signal came before, or none can be moved yet, and then there is a pause before the next call.
-    Again { pause: bool },
-    Broken,
-}
-
-// How far the calls have come.
-#[derive(Drop)]
+// What a transfer came to that did not fail.
+#[derive(Clone, Copy)]
 pub enum Transfer {
-    // There is another call to make, after a pause or at once; as many more as `tries` may move nothing.
-    Open {
+    // A call met the end. Calls before may have failed and been made again: of the last of these it is told why.
+    Ended {
         moved: usize,
-        tries: usize,
-        pause: bool,
+        failed: Option<io::Error>,
     },
-    // A call met the end.
-    Ended(usize),
     // All bytes that there is room for are moved.
     Full(usize),
-    Failed,
 }
 
 impl Transfer {
@@ -46,86 +29,73 @@ impl Transfer {
     pub const PATIENCE: usize = 1000;
 }
 
-// `error` is errno, which counts only after a call that answered -1.
-fn answer_of(got: isize, error: i32) -> Answer
-    ensures { result ≡ answer got error }
-{
-    if got >= 0 {
-        return Answer::Moved(got as usize);
-    }
-    if error == EINTR {
-        return Answer::Again { pause: false };
-    }
-    if error == EAGAIN {
-        return Answer::Again { pause: true };
-    }
-    Answer::Broken
+// There is another call to make, after a pause or at once; as many more as `tries` may move nothing.
+#[derive(Clone, Copy)]
+struct Underway {
+    moved: usize,
+    tries: usize,
+    pause: bool,
+    // Why the last call that failed did.
+    failed: Option<io::Error>,
 }
 
-// errno of a call that failed. An error that is not the system's has a kind and no number.
-fn number_of(error: &io::Error) -> i32
-    ensures { result ≡ number error.now }
+// Whether there is a pause before a call is made again that failed so: a signal came before it moved a byte, or none can be moved yet. None: it failed for good.
+fn pause_before(kind: ErrorKind) -> Option<bool>
+    ensures { result ≡ pause_before kind }
 {
-    if let Some(code) = error.raw_os_error() {
-        return code;
-    }
-    match error.kind() {
-        ErrorKind::Interrupted => EINTR,
-        ErrorKind::WouldBlock => EAGAIN,
-        _ => 0,
+    match kind {
+        ErrorKind::Interrupted => Some(false),
+        ErrorKind::WouldBlock => Some(true),
+        _ => None,
     }
 }
 
-// What a call answered, from what it gave back. Why it failed, if it did, is kept in `error`.
-fn answer_to(call: io::Result<usize>, error: &mut Option<io::Error>) -> Answer
-    requires { IfOk call (λ n. n < 2 ^ 63) }
-    ensures answer { result ≡ answered call }
-    ensures told { IsTold error.new result }
-{
-    match call {
-        Ok(n) => answer_of(n as isize, 0),
-        Err(e) => {
-            *error = Some(e);
-            answer_of(-1, number_of(&e))
-        }
-    }
-}
-
-fn moved_further(size: usize, moved: usize) -> Transfer
-    ensures { result ≡ further size moved }
+fn further(size: usize, moved: usize, failed: Option<io::Error>) -> ControlFlow<Transfer, Underway>
+    ensures { result ≡ further size moved failed }
 {
     if size <= moved {
-        return Transfer::Full(moved);
+        return ControlFlow::Break(Transfer::Full(moved));
     }
-    Transfer::Open {
+    ControlFlow::Continue(Underway {
         moved,
         tries: Transfer::PATIENCE,
         pause: false,
-    }
+        failed,
+    })
 }
 
-fn after(size: usize, moved: usize, tries: usize, answer: Answer) -> Transfer
-    requires { Room size moved answer }
-    ensures { result ≡ next size moved tries answer }
+// Another try, while there are any.
+fn again(so_far: Underway, pause: bool, error: io::Error) -> io::Result<Underway>
+    ensures { result ≡ again so_far.moved so_far.tries pause error }
 {
-    match answer {
-        Answer::Moved(n) => {
-            if n == 0 {
-                return Transfer::Ended(moved);
-            }
-            moved_further(size, moved + n)
-        }
-        Answer::Again { pause } => {
-            if tries == 0 {
-                return Transfer::Failed;
-            }
-            Transfer::Open {
-                moved,
-                tries: tries - 1,
-                pause,
-            }
-        }
-        Answer::Broken => Transfer::Failed,
+    let tries = so_far.tries.checked_sub(1).ok_or(error)?;
+    Ok(Underway {
+        tries,
+        pause,
+        failed: Some(error),
+        ..so_far
+    })
+}
+
+// What a call leads to.
+fn after(
+    size: usize,
+    so_far: Underway,
+    call: io::Result<usize>,
+) -> io::Result<ControlFlow<Transfer, Underway>>
+    requires { Room size so_far.moved call }
+    ensures { result ≡ next size so_far.moved so_far.tries so_far.failed call }
+{
+    match call {
+        Ok(0) => Ok(ControlFlow::Break(Transfer::Ended {
+            moved: so_far.moved,
+            failed: so_far.failed,
+        })),
+        Ok(n) => Ok(further(size, so_far.moved + n, so_far.failed)),
+        Err(error) => match pause_before(error.kind()) {
+            Some(pause) => Ok(ControlFlow::Continue(again(so_far, pause, error)?)),
+            None => Err(error),
+        },
     }
 }
 
@@ -134,67 +104,111 @@ fn wait(clock: &impl Clock) {
     thread::sleep(clock, Duration::from_millis(10));
 }
 
-// One call of `read`, for the bytes of the buffer behind the first `moved`.
-fn read_more<R: Read>(
-    reader: &mut R,
-    buffer: &mut [u8],
-    moved: usize,
-    error: &mut Option<io::Error>,
-) -> Answer
-    requires { Place moved buffer.old }
-    ensures room { Room (length buffer.old) moved result }
-    ensures kept { take moved buffer.new ≡ take moved buffer.old }
-    ensures gives { Gives (R.remaining reader.old) (R.remaining reader.new) moved buffer.new result }
-    ensures told { IsTold error.new result }
-{
-    let got = reader.read(&mut buffer[moved..]);
-    answer_to(got, error)
+// What a transfer moves bytes between: a reader and a buffer, or bytes and a writer.
+trait Moves {
+    // How many bytes there is room for, or are to be written.
+    ghost size: { Self → ℕ };
+
+    // On the way from one state to another the first so many bytes were moved.
+    ghost Moved: { Self → Self → ℕ → Type 0 };
+
+    // What is said of the end.
+    ghost AtEnd: { Self → Type 0 };
+
+    fn size(&self) -> usize
+        ensures { result ≡ size self.now };
+
+    // One call, for the bytes behind the first `moved`.
+    fn call(&mut self, moved: usize) -> io::Result<usize>
+        requires { moved ≤ size self.old }
+        ensures kept { size self.new ≡ size self.old }
+        ensures room { Room (size self.old) moved result }
+        ensures moves { (first : Self) → Moved first self.old moved
+            → MovedOn (Moved first self.new) (AtEnd self.new) (size self.old) moved result };
+
+    ghost none_moved: { (state : Self) → Moved state state 0 };
 }
 
-// The same of `write`.
-fn write_more<W: Write>(
-    writer: &mut W,
-    bytes: &[u8],
-    moved: usize,
-    error: &mut Option<io::Error>,
-) -> Answer
-    requires { Place moved bytes.now }
-    ensures room { Room (length bytes.now) moved result }
-    ensures takes { Takes (W.contents writer.old) (W.contents writer.new) moved bytes.now result }
-    ensures told { IsTold error.new result }
+// Makes one call after another, until one meets the end, or all bytes are moved, or one has failed.
+fn move_all<C: Clock, M: Moves>(clock: &C, moves: &mut M) -> io::Result<Transfer>
+    ensures over { IfOk result (λ t. Over t (M.size moves.old)) }
+    ensures moved { HasMoved (M.Moved moves.old moves.new) (M.AtEnd moves.new) result }
 {
-    let got = writer.write(&bytes[moved..]);
-    answer_to(got, error)
+    let size = moves.size();
+    let mut transfer = further(size, 0, None);
+    loop {
+        let so_far = match transfer {
+            ControlFlow::Continue(so_far) => so_far,
+            ControlFlow::Break(over) => return Ok(over),
+        };
+        if so_far.pause {
+            wait(clock);
+        }
+        let call = moves.call(so_far.moved);
+        transfer = after(size, so_far, call)?;
+    }
 }
 
-// Reads until the input ends or the buffer is full. Where it fails, `error` tells why.
+#[derive(Drop)]
+struct Reading<'a, R> {
+    reader: &'a mut R,
+    buffer: &'a mut [u8],
+}
+
+impl<R: Read> Moves for Reading<'_, R> {
+    ghost size = { λ it. length it.buffer.now };
+
+    ghost Moved = { λ old new n. (new.reader.ghost_name ≡ old.reader.ghost_name) × (new.buffer.ghost_name ≡ old.buffer.ghost_name)
+        × Consumes (R.remaining old.reader.now) (R.remaining new.reader.now) (take n new.buffer.now) };
+
+    ghost AtEnd = { λ it. IsAtEnd (R.remaining it.reader.now) };
+
+    ghost none_moved = { λ it. (refl, refl, Consumes-nil (R.remaining it.reader.now)) };
+
+    fn size(&self) -> usize {
+        self.buffer.len()
+    }
+
+    fn call(&mut self, moved: usize) -> io::Result<usize> {
+        self.reader.read(&mut self.buffer[moved..])
+    }
+}
+
+#[derive(Drop)]
+struct Writing<'a, W> {
+    writer: &'a mut W,
+    bytes: &'a [u8],
+}
+
+impl<W: Write> Moves for Writing<'_, W> {
+    ghost size = { λ it. length it.bytes.now };
+
+    ghost Moved = { λ old new n. (new.writer.ghost_name ≡ old.writer.ghost_name) × (new.bytes ≡ old.bytes)
+        × Appends (W.contents old.writer.now) (W.contents new.writer.now) (take n new.bytes.now) };
+
+    ghost AtEnd = { λ _. ⊤ };
+
+    ghost none_moved = { λ it. (refl, refl, Appends-nil (W.contents it.writer.now)) };
+
+    fn size(&self) -> usize {
+        self.bytes.len()
+    }
+
+    fn call(&mut self, moved: usize) -> io::Result<usize> {
+        self.writer.write(&self.bytes[moved..])
+    }
+}
+
+// Reads until the input ends or the buffer is full.
 pub fn read_full<C: Clock, R: Read>(
     clock: &C,
     reader: &mut R,
     buffer: &mut [u8],
-    error: &mut Option<io::Error>,
-) -> Transfer
-    ensures over { Over result (length buffer.old) }
+) -> io::Result<Transfer>
+    ensures over { IfOk result (λ t. Over t (length buffer.old)) }
     ensures read { HasRead (R.remaining reader.old) (R.remaining reader.new) buffer.new result }
-    ensures why { TellsWhy error.new result }
 {
-    let size = buffer.len();
-    let mut transfer = moved_further(size, 0);
-    loop {
-        let Transfer::Open {
-            moved,
-            tries,
-            pause,
-        } = transfer
-        else {
-            return transfer;
-        };
-        if pause {
-            wait(clock);
-        }
-        let answer = read_more(reader, buffer, moved, error);
-        transfer = after(size, moved, tries, answer);
-    }
+    move_all(clock, &mut Reading { reader, buffer })
 }
 
 // Writes all of the bytes and ends full, unless it fails, when some may have been written.
@@ -202,27 +216,9 @@ pub fn write_full<C: Clock, W: Write>(
     clock: &C,
     writer: &mut W,
     bytes: &[u8],
-    error: &mut Option<io::Error>,
-) -> Transfer
-    ensures over { Over result (length bytes.now) }
+) -> io::Result<Transfer>
+    ensures over { IfOk result (λ t. Over t (length bytes.now)) }
     ensures written { HasWritten (W.contents writer.old) (W.contents writer.new) bytes.now result }
-    ensures why { TellsWhy error.new result }
 {
-    let size = bytes.len();
-    let mut transfer = moved_further(size, 0);
-    loop {
-        let Transfer::Open {
-            moved,
-            tries,
-            pause,
-        } = transfer
-        else {
-            return transfer;
-        };
-        if pause {
-            wait(clock);
-        }
-        let answer = write_more(writer, bytes, moved, error);
-        transfer = after(size, moved, tries, answer);
-    }
+    move_all(clock, &mut Writing { writer, bytes })
 }

@@ -12,18 +12,12 @@ pub const GREATEST: u32 = 9_999_999;
 pub fn is_outside(x: u32) -> bool
     ensures { result ≡ outside x }
 {
-    !((1 <= x) & (x <= GREATEST))
+    !(1..=GREATEST).contains(&x)
 }
 
 // Whether any of the values is.
 pub fn any_outside(values: &[u32]) -> bool
     ensures { result ≡ any outside values.now }
 {
-    let mut found = false;
-    let mut i: usize = 0;
-    while i < values.len() {
-        found = found | is_outside(values[i]);
-        i += 1;
-    }
-    found
+    values.iter().any(|&x| is_outside(x))
 }

@@ -3,13 +3,11 @@
 // No contract can say what a file gives or takes. What `judge` says is of a reader and a writer whose bytes are known, and it is proved for any of them.
 #![tactic(auto)]
 
-ghost use Rattle.std.specs.Prelude.{◌≡◌, ◌↔◌, length, IfSome, IsTrue};
+ghost use Rattle.std.specs.Prelude.{◌≡◌, ◌↔◌, length, is_ok, IfSome, IsTrue};
 ghost use Rattle.rules.specs.Logarithm.{squarings};
 ghost use Rattle.rules.specs.Sheet.{pollutants};
 ghost use Rattle.rules.specs.Printed.{printed};
 ghost use Rattle.lines.specs.Writing.{ascii, Kept, held};
-ghost use Rattle.transfers.specs.Transfers.{Over};
-ghost use Rattle.transfers.specs.Bytes.{HasWritten};
 ghost use Rattle.verdict.specs.Input.{Whole};
 ghost use Rattle.verdict.specs.Output.{Answered};
 
@@ -20,8 +18,8 @@ use printing::print;
 use std::env::{Env, FillError};
 use std::fs::File;
 use std::io::{Error, ErrorKind, Read, Write};
-use std::str;
 use std::time::Clock;
+use std::{io, str};
 use transfers::{Transfer, read_full, write_full};
 
 // A sheet of 20-byte records leaves a byte free. An input that leaves none is longer than any such sheet, and is refused whatever follows.
@@ -30,12 +28,12 @@ const ROOM: usize = Size::LONGEST_OF_TWENTY + 1;
 // The longest name of a file that Linux takes, and a byte more.
 const NAME_ROOM: usize = 4096;
 
-// Linux's number of a name that is too long.
+// Linux's number of a name that is too long: by it the error has the system's words.
 const ENAMETOOLONG: i32 = 36;
 
 // Where standard error takes no more, nobody is there to be told.
 fn say<C: Clock, E: Write>(clock: &C, errors: &mut E, words: &[u8]) {
-    write_full(clock, errors, words, &mut None);
+    let _ = write_full(clock, errors, words);
 }
 
 // An error's words. std ends those of the system's errors with a number, which is left out.
@@ -45,19 +43,14 @@ fn reason<'a>(error: &Error, room: &'a mut [u8]) -> &'a str {
     let _ = write!(rest, "{error}");
     let n = size.saturating_sub(rest.len());
     let text = str::from_utf8(&room[..n]).unwrap_or("");
-    match text.rsplit_once(" (os error ") {
-        Some((words, _)) => words,
-        None => text,
-    }
+    text.rsplit_once(" (os error ")
+        .map_or(text, |(words, _)| words)
 }
 
-// What went wrong, and why, on standard error. Where no call failed, one that had bytes to write took none of them.
-fn fail<C: Clock, E: Write>(clock: &C, errors: &mut E, what: &[u8], error: Option<Error>) {
+// What went wrong, and why, on standard error.
+fn fail<C: Clock, E: Write>(clock: &C, errors: &mut E, what: &[u8], error: Error) {
     let mut room = [0u8; 256];
-    let words = reason(
-        &error.unwrap_or(Error::from(ErrorKind::WriteZero)),
-        &mut room,
-    );
+    let words = reason(&error, &mut room);
     say(clock, errors, b"verdict: ");
     say(clock, errors, what);
     say(clock, errors, b": ");
@@ -75,22 +68,20 @@ fn usage<C: Clock, E: Write>(clock: &C, errors: &mut E) {
     );
 }
 
-fn write_lines<C: Clock, W: Write>(
-    clock: &C,
-    writer: &mut W,
-    lines: Lines,
-    error: &mut Option<Error>,
-) -> Transfer
+// Writes all of the lines, unless it fails. A call that had bytes to write may take none of them: what is told then is why a call before failed, if one did.
+fn write_lines<C: Clock, W: Write>(clock: &C, writer: &mut W, lines: Lines) -> io::Result<()>
     requires { Kept lines }
-    ensures over { Over result lines.length }
-    ensures written { HasWritten (W.contents writer.old) (W.contents writer.new) (held lines) result }
+    ensures { Answered (is_ok result) (W.contents writer.old) (W.contents writer.new) (held lines) }
 {
-    let bytes = lines.bytes;
-    let length = lines.length;
-    write_full(clock, writer, &bytes[..length], error)
+    match write_full(clock, writer, &lines.bytes[..lines.length])? {
+        Transfer::Full(_) => Ok(()),
+        Transfer::Ended { failed, .. } => {
+            Err(failed.unwrap_or(Error::from(ErrorKind::WriteZero)))
+        }
+    }
 }
 
-// The lines of a sheet that was read whole, and for people why it is refused: true where the lines are written. What was read is told, so that nobody can ask for the lines of a part.
+// The lines of a sheet that was read whole, and for people why it is refused: true where the lines are written, which is what `Answered` speaks of. What was read is told, so that nobody can ask for the lines of a part.
 fn answer<C: Clock, O: Write, E: Write>(
     clock: &C,
     output: &mut O,
@@ -101,14 +92,12 @@ fn answer<C: Clock, O: Write, E: Write>(
     requires { Whole read (length sheet.now) }
     ensures { Answered result (O.contents output.old) (O.contents output.new) (printed pollutants squarings sheet.now) }
 {
-    let mut error = None;
-    let written = write_lines(clock, output, print(sheet), &mut error);
-    let all = matches!(written, Transfer::Full(_));
-    if !all {
+    let written = write_lines(clock, output, print(sheet));
+    if let Err(error) = written {
         fail(clock, errors, b"standard output", error);
     }
-    write_lines(clock, errors, explain(sheet), &mut None);
-    all
+    let _ = write_lines(clock, errors, explain(sheet));
+    written.is_ok()
 }
 
 // Judges what there is to read, to its end: true where its lines are written.
@@ -123,15 +112,16 @@ fn judge<C: Clock, I: Read, O: Write, E: Write>(
         (λ sheet. Answered result (O.contents output.old) (O.contents output.new) (printed pollutants squarings sheet)) }
 {
     let mut buffer = [0u8; ROOM];
-    let mut error = None;
-    let read = read_full(clock, input, &mut buffer, &mut error);
-    match read {
-        Transfer::Ended(n) => answer(clock, output, errors, read, &buffer[..n]),
-        Transfer::Full(n) => answer(clock, output, errors, read, &buffer[..n]),
-        _ => {
+    let read = match read_full(clock, input, &mut buffer) {
+        Ok(read) => read,
+        Err(error) => {
             fail(clock, errors, name, error);
-            false
+            return false;
         }
+    };
+    match read {
+        Transfer::Ended { moved, .. } => answer(clock, output, errors, read, &buffer[..moved]),
+        Transfer::Full(moved) => answer(clock, output, errors, read, &buffer[..moved]),
     }
 }
 
@@ -148,13 +138,13 @@ fn judge_file(rt: &HostRuntime, name: &[u8]) {
     }
     let Ok(path) = str::from_utf8(name) else {
         let error = Error::new(ErrorKind::InvalidFilename, "The name is not UTF-8");
-        return fail(rt, &mut errors, name, Some(error));
+        return fail(rt, &mut errors, name, error);
     };
     match File::open(rt, path) {
         Ok(mut file) => {
             judge(rt, &mut file, &mut rt.stdout(), &mut errors, name);
         }
-        Err(error) => fail(rt, &mut errors, name, Some(error)),
+        Err(error) => fail(rt, &mut errors, name, error),
     }
 }
 
@@ -176,7 +166,7 @@ fn judge_argument(rt: &HostRuntime) {
         }
         Err(FillError::TooLong) => {
             let error = Error::from_raw_os_error(ENAMETOOLONG);
-            fail(rt, &mut errors, b"the name of the file", Some(error))
+            fail(rt, &mut errors, b"the name of the file", error)
         }
     }
 }

@@ -11,13 +11,13 @@ use Rattle.explaining.proofs.explain.Goals as goal
 pub returns-in_default : goal.returns-in_default
 unfolding explained checked_of checked_sized
 returns-in_default c =
-    let e = accepted-sheet Twenty _ (sym c.check-checked.ensures ∙ c.in_default.is) in
+    let e = accepted-sheet Twenty _ (sym c.check.ensures ∙ c.in_default.is) in
     rw (c.nothing.ensures, e.0) (written (add_none nothing room))
 
 pub returns : goal.returns
 unfolding explained checked_of checked_sized
 returns c =
-    let e = refused-sheet Twenty _ (sym c.check-checked.ensures ∙ c.in-Refused.is) in
+    let e = refused-sheet Twenty _ (sym c.check.ensures ∙ c.in-Err.is) in
     let start = rw c.nothing-2.ensures at c.with_word-lines.ensures in
     let a = add-then (add-word start) (add-then c.with_place-lines.ensures (add-then c.with_sentence.ensures (add-byte c.with_byte.ensures))) in
     rw e (written (at_most room a (omega (arith, a.few))))

@@ -5,6 +5,7 @@ use Rattle.lines.specs.declared.Lines.{Lines}
 use Rattle.lines.specs.Writing.{with_bytes}
 use Rattle.explaining.specs.Sentences.{line_of}
 use Rattle.explaining.proofs.with_line.Goals as goal
+use Rattle.explaining.proofs.with_line.Goals.{then-before-eq0+else-byte-eq10, else-before-eq0+then-byte-eq10-2, else-before-eq0+else-byte-eq10-2}
 
 left : (lines : Lines) (whole : Lines) (text : List ℕ) (i k : ℕ) → i < length text → with_bytes lines (line_of (drop i text) k) ≡ whole
     → with_bytes lines (line_of (get_or text i 0 ∷ drop (i + 1) text) k) ≡ whole
@@ -21,32 +22,22 @@ passed b (suc k) bs h = rw (sub-one (suc k)) refl
 pub returns-then-byte-eq10 : goal.returns-then-byte-eq10
 unfolding with_bytes line_of
 returns-then-byte-eq10 c =
-    let l = c.loop-i in
-    rw (c.if-before-eq0.true, c.if-byte-eq10.true) at (left l.lines _ c.args.text.now l.i l.before c.loop-i-test.true l.invariant.1)
+    let l = c.loop-byte in
+    rw (c.if-before-eq0.true, c.if-byte-eq10.true) at (left l.lines _ c.args.text.now l.byte-index l.before c.loop-byte-test.true l.invariant)
 
-pub loop-i-preserved-then-before-eq0 : goal.loop-i-preserved-then-before-eq0
+pub loop-byte-preserved : goal.loop-byte-preserved
 unfolding with_bytes line_of
-loop-i-preserved-then-before-eq0 c =
-    let l = c.loop-i in
-    let z = c.if-before-eq0.true in (
-      omega arith,
-      rw (c.with_byte-lines.ensures, z) (rw (z, ne_eqb _ 10 c.if-byte-eq10.false) at (left l.lines _ c.args.text.now l.i l.before c.loop-i-test.true l.invariant.1)),
-    )
-
-pub loop-i-preserved-then-byte-eq10-2 : goal.loop-i-preserved-then-byte-eq10-2
-loop-i-preserved-then-byte-eq10-2 c =
-    let l = c.loop-i in (
-      omega arith,
-      rw (c.if-byte-eq10-2.true, passed 10 _ _ c.if-before-eq0.false) at (left l.lines _ c.args.text.now l.i l.before c.loop-i-test.true l.invariant.1),
-    )
-
-pub loop-i-preserved : goal.loop-i-preserved
-loop-i-preserved c =
-    let l = c.loop-i in (
-      omega arith,
-      rw (passed _ _ _ c.if-before-eq0.false, ne_eqb _ 10 c.if-byte-eq10-2.false) at (left l.lines _ c.args.text.now l.i l.before c.loop-i-test.true l.invariant.1),
-    )
+loop-byte-preserved c =
+    let l = c.loop-byte in
+    let e = left l.lines _ c.args.text.now l.byte-index l.before c.loop-byte-test.true l.invariant in
+    elim c.if-before-eq0.branch [
+      | then-before-eq0+else-byte-eq10 w ↦
+          let z = w.if-before-eq0.true in
+          rw (w.lines-is, w.before-is, w.with_byte-lines.ensures, z) (rw (z, ne_eqb _ 10 w.if-byte-eq10.false) at e)
+      | else-before-eq0+then-byte-eq10-2 w ↦ rw (w.lines-is, w.before-is) (rw (w.if-byte-eq10-2.true, passed 10 _ _ w.if-before-eq0.false) at e)
+      | else-before-eq0+else-byte-eq10-2 w ↦ rw (w.lines-is, w.before-is) (rw (passed _ _ _ w.if-before-eq0.false, ne_eqb _ 10 w.if-byte-eq10-2.false) at e)
+    ]
 
 pub returns : goal.returns
 unfolding with_bytes line_of
-returns c = rw (drop_of_length-le c.args.text.now c.loop-i-test.false) at c.loop-i.invariant.1
+returns c = rw (drop_of_length-le c.args.text.now c.loop-byte-test.false) at c.loop-byte.invariant

@@ -11,7 +11,7 @@ returns-then-refusal-eq-LENGTH c = rw (eq-eqb _ 1 c.if-refusal-eq-LENGTH.true) (
 pub returns : goal.returns
 unfolding place
 returns c =
-    let named = rw (c.engines_through-engine.ensures, c.turn_at-turn.ensures) at c.with_name.ensures in
+    let named = rw (c.engines_through-engine.ensures, c.step_at-step.ensures) at c.with_name.ensures in
     rw (ne_eqb _ 1 c.if-refusal-eq-LENGTH.false)
     (add-then (add-word c.with_word.ensures)
     (add-then c.with_number.ensures (add-then (add-word c.with_word-lines.ensures) (add-then named (add-word c.with_word-2.ensures)))))

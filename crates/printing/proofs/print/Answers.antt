@@ -1,4 +1,4 @@
--- `print` meets its contract: the lines of the judgement, or of the refusal.
+-- The lines of the judgement, or of the refusal.
 use Rattle.arithmetic.proofs.Basics.{subst, arith}
 use Rattle.rules.specs.Sizes.{judge_sized}
 use Rattle.lines.specs.Writing.{room, Written}
@@ -6,16 +6,16 @@ use Rattle.lines.proofs.Written.{written}
 use Rattle.printing.proofs.Printing.{within, printed-refusal, printed-judgement}
 use Rattle.printing.proofs.print.Goals as goal
 
-pub returns-in-Judgement : goal.returns-in-Judgement
+pub returns-in-Ok : goal.returns-in-Ok
 unfolding judge_sized
-returns-in-Judgement c =
-    let t = c.in-Judgement.is in
+returns-in-Ok c =
+    let t = c.in-Ok.is in
     let e = c.judge.ensures in
     subst (Written _) (printed-judgement _ _ (rw t at e.result_value) (rw t at e.declared_is)) (written c.judgement_lines.ensures)
 
-pub returns-in-Refused : goal.returns-in-Refused
+pub returns-in-Err : goal.returns-in-Err
 unfolding judge_sized
-returns-in-Refused c =
-    let t = c.in-Refused.is in
+returns-in-Err c =
+    let t = c.in-Err.is in
     let e = c.judge.ensures in
     subst (Written _) (printed-refusal _ _ _ (rw t at e.result_value)) (written (within room c.line_of.ensures (omega arith)))

@@ -6,6 +6,7 @@ use Rattle.verdict.proofs.judge.Goals as goal
 
 pub returns-in-Full : goal.returns-in-Full
 returns-in-Full g c =
-    let read = c.in-Full.ensures in
-    let long : longest < length (take c.in-Full.n c.read_full-read.new.buffer) = simp length-take (omega (arith, read.over)) in
-    beginning-answers _ _ _ _ _ _ read.read long c.answer-in-Full.ensures
+    let full = rw c.in-Full.is at c.in-Ok.ensures.over in
+    let has_read = rw c.in-Full.is at c.in-Ok.ensures.read in
+    let long : longest < length (take c.in-Full.moved c.read_full.new.buffer) = simp length-take (omega (arith, full)) in
+    beginning-answers _ _ _ _ _ _ has_read long c.answer-in-Full.ensures

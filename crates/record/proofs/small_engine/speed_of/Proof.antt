@@ -1,9 +1,0 @@
--- The speed is the number at the bytes that document 02 names.
-use Rattle.arithmetic.proofs.Basics.{rules}
-use Rattle.rules.specs.Sheet.{speed}
-use Rattle.record.proofs.small_engine.speed_of.Statement.{statement}
-use Rattle.record.proofs.small_engine.speed_of.Tie as tie
-
-pub speed_of_spec : {M : Type 1} → statement M
-unfolding speed
-speed_of_spec = tie.close (tie.spec (λ c κs. search rules) (λ c. search rules))
