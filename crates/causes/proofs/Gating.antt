@@ -8,7 +8,7 @@ use Rattle.rules.specs.Tools.{any, those}
 use Rattle.rules.specs.Sheet.{Record, Pollutant, cause, is_pending}
 use Rattle.rules.specs.Plans.{Plan, known_deviation_lem, unknown_deviation_lem, attributes, in_service_lem, corrected, last_row_lem}
 use Rattle.rules.specs.Series as rules
-use Rattle.accepted.specs.Sheets.{pollutants_in, engines_in}
+use Rattle.accepted.specs.Sheets.{pollutants_in, engines_in, AcceptedSheet}
 use Rattle.accepted.proofs.Causes.{has_cause}
 use Rattle.accepted.proofs.Sheets.{is_in_service, rows_fit, caused}
 use Rattle.plan.specs.declared.Plan as declared
@@ -18,7 +18,6 @@ use Rattle.accepted.proofs.BeforeRows.{caused-cut, repeats_of, pending_of, refer
 use Rattle.columns.specs.Columns.{open_after, cause_after, held_after, referral_after, gate, closes}
 use Rattle.columns.proofs.Gates.{gate-opens, gate-open, gate-ends}
 use Rattle.causes.specs.Causes.{cause_in, equal_causes_lem, emitters_in, repeats_in, pending_in, repeats_by, before_in, gate_of_lem, in_service_gate_lem}
-use Rattle.causes.specs.Ranges.{InServiceRange}
 use Rattle.causes.proofs.Emitting.{those-not, those-next, count_next, closes-pick}
 
 -- every plan of the program's but plan 4
@@ -123,13 +122,13 @@ pub record Gated (w : ℕ) (b : List ℕ) (engines n : ℕ) (repeated pending : 
   pub repeats : repeated ≡ repeats_in w b n
   pub waits : pending ≡ pending_in w b n
 
-module _ {w : ℕ} {b : List ℕ} {start engines : ℕ} (range : InServiceRange w b start engines) where
+module _ {w : ℕ} {b : List ℕ} {start engines : ℕ} (sheet : AcceptedSheet w b in_service_lem start) (all : engines ≡ length (engines_in w b)) where
   pub few-rows : engines ≤ last_row_lem in_service_lem
-  few-rows = rw range.all (rows_fit range.sheet)
+  few-rows = rw all (rows_fit sheet)
 
   before-row : (n : ℕ) → before_in w in_service_lem b n ≡ before_by n (take n (engines_in w b))
   before-row n =
-      before-is (pollutants_in w b) n (take n (engines_in w b)) in_service_lem (caused-cut true (pollutants_in w b) n (engines_in w b) (caused range.sheet)).0
+      before-is (pollutants_in w b) n (take n (engines_in w b)) in_service_lem (caused-cut true (pollutants_in w b) n (engines_in w b) (caused sheet)).0
 
   closes-row : (n : ℕ) → closes (before_in w in_service_lem b n) ≡ leb 3 n && (repeats_in w b n || (pending_in w b n || referral_by n (take n (engines_in w b))))
   closes-row n =
@@ -138,7 +137,7 @@ module _ {w : ℕ} {b : List ℕ} {start engines : ℕ} (range : InServiceRange 
 
   -- those without a cause leave the gross emitters
   pub emitters-are : {k : ℕ} → k ≡ equal_causes_lem w b engines 0 → k + length (those has_cause (engines_in w b)) ≡ engines
-  emitters-are ke = rw (ke, range.all, take-length (engines_in w b)) (those-not (λ r. eqb (cause r) 0) (engines_in w b))
+  emitters-are ke = rw (ke, all, take-length (engines_in w b)) (those-not (λ r. eqb (cause r) 0) (engines_in w b))
 
   -- without one no row ends or holds the series
   pub no-emitters : length (those has_cause (engines_in w b)) ≡ 0 → open_after engines ≡ in_service_gate_lem w b engines
@@ -163,7 +162,7 @@ module _ {w : ℕ} {b : List ℕ} {start engines : ℕ} (range : InServiceRange 
   module _ {n : ℕ} {repeated pending : Bool} (g : Gated w b engines n repeated pending) (l : n < engines) {z : ℕ} (ze : z ≡ cause_in w b n)
       {x : Bool} (xe : x ≡ repeats_by w b n z) where
     inside : n < length (engines_in w b)
-    inside = omega (arith, range.all)
+    inside = omega (arith, all)
 
     now-repeats : repeats_in w b (suc n) ≡ repeated || x
     now-repeats = rw (g.repeats, xe) (repeats-next w b n inside ze)
@@ -198,7 +197,7 @@ module _ {w : ℕ} {b : List ℕ} {start engines : ℕ} (range : InServiceRange 
         refers =
             rw (add-one n)
             (by-test (λ t. t && leb 2 (length (emitters_in w b (suc n))) ≡ t && leb 2 emitters) (eqb (suc n) 15)
-            (λ t. let h = eqb-true (suc n) 15 t in rw (take_all (suc n) (engines_in w b) (omega (arith, few-rows, range.all)), ee) refl) (λ t. refl))
+            (λ t. let h = eqb-true (suc n) 15 t in rw (take_all (suc n) (engines_in w b) (omega (arith, few-rows, all)), ee) refl) (λ t. refl))
 
         pub referral-gate : eqb (n + 1) 15 && leb 2 emitters ≡ true → referral_after n ≡ in_service_gate_lem w b engines
         referral-gate h =

@@ -4,17 +4,18 @@
 // On an accepted sheet the gross emitters are the vehicles with a cause, so outside plan 4 there are none.
 #![tactic(auto)]
 
-ghost use Rattle.std.specs.Prelude.{◌≡◌, not, ◌&&◌, ◌||◌, ◌+◌, leb, eqb};
+ghost use Rattle.std.specs.Prelude.{◌≡◌, ◌≤◌, ◌<◌, not, ◌&&◌, ◌||◌, leb, eqb, length};
 ghost use Rattle.rules.specs.Sheet.{is_pending};
 ghost use Rattle.plan.specs.Plan.{plan_is};
+ghost use Rattle.plan.specs.declared.Plan.TheVariants.{InService};
 ghost use Rattle.layout.specs.Sizes.{width_is};
 ghost use Rattle.columns.specs.Columns.{rows_of};
+ghost use Rattle.tested.specs.Tested.{engines_of};
 ghost use Rattle.causes.specs.Causes.{cause_in, equal_causes_lem, repeats_by, gate_is, gate_of_lem, in_service_gate_lem, first_row_lem};
-ghost use Rattle.causes.specs.Ranges.{EnginesRange, InServiceRange, GateRange, FirstRange};
 
-use layout::Size;
 use plan::Plan;
 use record::{PENDING, cause_of, record_at};
+use tested::TestedSheet;
 
 // The last row of plan 4.
 const LAST_ROW: usize = Plan::IN_SERVICE_LAST_ROW as usize;
@@ -41,50 +42,51 @@ impl Gate {
 }
 
 // The cause of the vehicle behind k engines.
-fn cause_at(size: Size, bytes: &[u8], start: usize, k: usize) -> u32
-    requires { EnginesRange (width_is size) bytes.now start (k + 1) }
-    ensures { result ≡ cause_in (width_is size) bytes.now k }
+fn cause_at(sheet: TestedSheet, k: usize) -> u32
+    requires { k < length (engines_of sheet) }
+    ensures { result ≡ cause_in (width_is sheet.entry.size) sheet.entry.bytes.now k }
 {
-    cause_of(record_at(size, bytes, start + k))
+    cause_of(record_at(sheet.size, sheet.bytes, sheet.start + k))
 }
 
 // How many of the first n engines have the cause.
-fn equal_causes(size: Size, bytes: &[u8], start: usize, n: usize, cause: u32) -> usize
-    requires { EnginesRange (width_is size) bytes.now start n }
-    ensures { result ≡ equal_causes_lem (width_is size) bytes.now n cause }
+fn equal_causes(sheet: TestedSheet, n: usize, cause: u32) -> usize
+    requires { n ≤ length (engines_of sheet) }
+    ensures { result ≡ equal_causes_lem (width_is sheet.entry.size) sheet.entry.bytes.now n cause }
 {
     let mut count: usize = 0;
     for k in 0..n {
-        count += (cause_at(size, bytes, start, k) == cause) as usize;
+        count += (cause_at(sheet, k) == cause) as usize;
     }
     count
 }
 
 // Whether the cause is one that is known, and one of the first n engines has it: "two equal known causes".
-fn repeats(size: Size, bytes: &[u8], start: usize, n: usize, cause: u32) -> bool
-    requires { EnginesRange (width_is size) bytes.now start n }
-    ensures { result ≡ repeats_by (width_is size) bytes.now n cause }
+fn repeats(sheet: TestedSheet, n: usize, cause: u32) -> bool
+    requires { n ≤ length (engines_of sheet) }
+    ensures { result ≡ repeats_by (width_is sheet.entry.size) sheet.entry.bytes.now n cause }
 {
     if (cause == 0) | (cause == PENDING) {
         return false;
     }
-    1 <= equal_causes(size, bytes, start, n, cause)
+    1 <= equal_causes(sheet, n, cause)
 }
 
 // The rows of plan 4. Without a gross emitter they are not gone through; with two or more a series that reaches the last row is referred.
-fn in_service_gate(size: Size, bytes: &[u8], start: usize, engines: usize) -> Gate
-    requires { InServiceRange (width_is size) bytes.now start engines }
-    ensures { gate_is result ≡ in_service_gate_lem (width_is size) bytes.now engines }
+fn in_service_gate(sheet: TestedSheet, engines: usize) -> Gate
+    requires in_service { sheet.plan ≡ InService }
+    requires all { engines ≡ length (engines_of sheet) }
+    ensures { gate_is result ≡ in_service_gate_lem (width_is sheet.entry.size) sheet.entry.bytes.now engines }
 {
-    let emitters = engines - equal_causes(size, bytes, start, engines, 0);
+    let emitters = engines - equal_causes(sheet, engines, 0);
     if emitters == 0 {
         return Gate::Open(engines as u8);
     }
     let mut repeated = false;
     let mut pending = false;
     for n in 0..engines {
-        let cause = cause_at(size, bytes, start, n);
-        repeated = repeated | repeats(size, bytes, start, n, cause);
+        let cause = cause_at(sheet, n);
+        repeated = repeated | repeats(sheet, n, cause);
         pending = pending | (cause == PENDING);
         let before = n as u8;
         let row = n + 1;
@@ -101,25 +103,25 @@ fn in_service_gate(size: Size, bytes: &[u8], start: usize, engines: usize) -> Ga
     Gate::Open(engines as u8)
 }
 
-// The rows of an accepted sheet; plans 1 to 3 and 5 end no series before a row's statistics. For `tally` alone, which has what the check says of the sheet: so it may require.
-pub fn gate_of(size: Size, bytes: &[u8], start: usize, engines: usize, plan: Plan) -> Gate
-    requires { GateRange (width_is size) bytes.now start engines plan }
-    ensures { gate_is result ≡ gate_of_lem (width_is size) (plan_is plan) bytes.now engines }
+// The rows of the sheet; plans 1 to 3 and 5 end no series before a row's statistics. For `tally` alone, which has the number of engines from the check: so it may require.
+pub fn gate_of(sheet: TestedSheet, engines: usize) -> Gate
+    requires { engines ≡ length (engines_of sheet) }
+    ensures { gate_is result ≡ gate_of_lem (width_is sheet.entry.size) (plan_is sheet.entry.plan) sheet.entry.bytes.now engines }
 {
     let rows = engines as u8;
-    match plan {
-        Plan::InService => in_service_gate(size, bytes, start, engines),
+    match sheet.plan {
+        Plan::InService => in_service_gate(sheet, engines),
         _ => Gate::Open(rows),
     }
 }
 
-// The first row whose statistics are looked at, of an accepted sheet with three engines or more; 02, F-11: "only row 3 is left open for
-// gross emitters". For `statistics` alone, likewise.
-pub fn first_row(size: Size, bytes: &[u8], start: usize, plan: Plan) -> usize
-    requires { FirstRange (width_is size) bytes.now start plan }
-    ensures { result ≡ first_row_lem (width_is size) bytes.now }
+// The first row whose statistics are looked at, of a sheet with three engines or more; 02, F-11: "only row 3 is left open for gross
+// emitters". For `statistics` alone, likewise.
+pub fn first_row(sheet: TestedSheet) -> usize
+    requires { 3 ≤ length (engines_of sheet) }
+    ensures { result ≡ first_row_lem (width_is sheet.entry.size) sheet.entry.bytes.now }
 {
-    if plan == Plan::InService && (0..3).any(|k| cause_at(size, bytes, start, k) != 0) {
+    if sheet.plan == Plan::InService && (0..3).any(|k| cause_at(sheet, k) != 0) {
         4
     } else {
         3

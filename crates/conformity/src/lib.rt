@@ -15,7 +15,7 @@ ghost use Rattle.rules.specs.DeclaredValue as approval;
 ghost use Rattle.outcomes.specs.Outcomes.{outcome_is};
 
 use checking::Refusal;
-use declared_value::{Approval, approve};
+use declared_value::approve;
 use judging_ranges::{Range, judge_range};
 use layout::Size;
 
@@ -141,14 +141,14 @@ pub extern "C" fn conformity_declared(
     ensures divisor_after { divisor.new ≡ approval.divisor_after_lem (approval.approve declared tests.now) divisor.old }
 {
     match approve(declared, tests) {
-        Ok(Approval::Another) => {
+        Ok(None) => {
             *sum = 0;
             *divisor = 0;
             0
         }
-        Ok(Approval::Value { sum: total, count }) => {
-            *sum = total;
-            *divisor = count;
+        Ok(Some(value)) => {
+            *sum = value.sum;
+            *divisor = value.count;
             0
         }
         Err(reason) => Refusal::from(reason).code(),

@@ -1,16 +1,17 @@
 -- What corrects a column, by whether the record before the first engine's is one of run-in values; and products compared by a quotient.
-use Rattle.arithmetic.proofs.Basics.{ℕ, zero, suc, ◌-◌, ◌*◌, ◌/◌, ◌≤◌, arith, ◌≡◌, refl, sym, ap, ◌∙◌, false, List, [], ◌∷◌, eqb, length, get_or, take, add-zero}
+use Rattle.arithmetic.proofs.Basics.{ℕ, zero, suc, ◌-◌, ◌*◌, ◌/◌, ◌≤◌, arith, ◌≡◌, refl, sym, ap, ◌∙◌, true, false, List, [], ◌∷◌, eqb, length, get_or, take, add-zero}
 use Rattle.std.proofs.Common.{min}
 use Rattle.arithmetic.proofs.Basics.{⊎_elim, lt-or-ge, ltb, ltb-true, lt-ltb, le-ltb, never, by-test}
 use native.Mathlib.Nat.{div-lt_iff_lt-mul, mul-div_cancel}
 use Rattle.rules.specs.Logarithm.{greatest}
-use Rattle.rules.specs.Sheet.{Record, run_in_kind, records, kind, measurement}
+use Rattle.rules.specs.Sheet.{Record, run_in_kind, records, kind, measurement, declares}
+use Rattle.rules.specs.Plans.{Plan}
 use Rattle.rules.specs.Series.{correction}
-use Rattle.accepted.specs.Sheets.{record_at_lem, run_ins_in, engines_in}
+use Rattle.accepted.specs.Sheets.{record_at_lem, pollutants_in, run_ins_in, engines_in, AcceptedSheet}
 use Rattle.accepted.proofs.Ranges.{InRange, measurements-in, run-in-values-in}
 use Rattle.accepted.proofs.Sheets.{clean, run-in-is, engine-is}
 use Rattle.logarithm.specs.Four.{Measured}
-use Rattle.corrections.specs.Corrections.{CorrectionRange, correction_in}
+use Rattle.corrections.specs.Corrections.{correction_in}
 
 -- every row has the same correction, for the first engine is the first of every row's
 pub each_row : (vs es : List Record) (p n : ℕ) → 1 ≤ n → correction vs (take n es) p ≡ correction vs es p
@@ -29,27 +30,28 @@ pub record CorrectedBy (w : ℕ) (b : List ℕ) (p x y : ℕ) : Type 0 where
   pub value : Measured x
   pub first : Measured y
 
-module _ {w : ℕ} {b : List ℕ} {start p : ℕ} (range : CorrectionRange w b start p) where
-  -- the first engine's record
-  first-is : get_or (engines_in w b) 0 [] ≡ record_at_lem w b start
-  first-is = engine-is range.sheet 0 (omega (arith, range.tested)) ∙ ap (record_at_lem w b) (add-zero start)
+module _ {w : ℕ} {b : List ℕ} {plan : Plan} {start : ℕ} (sheet : AcceptedSheet w b plan start) where
+  module _ (tested : 1 ≤ length (engines_in w b)) where
+    -- the first engine's record
+    first-is : get_or (engines_in w b) 0 [] ≡ record_at_lem w b start
+    first-is = engine-is sheet 0 (omega (arith, tested)) ∙ ap (record_at_lem w b) (add-zero start)
 
-  pub run_in : {k x y : ℕ} → k ≡ kind (record_at_lem w b (start - 1)) → k ≡ run_in_kind
-      → x ≡ measurement (record_at_lem w b (start - 1)) p → y ≡ measurement (record_at_lem w b start) p → CorrectedBy w b p x y
-  run_in i e ex ey =
-      let v : run_ins_in w b ≡ record_at_lem w b (start - 1) ∷ [] = rw (← i, e) at (run-in-is range.sheet) in
-      let c = clean range.sheet in
-      let values : InRange p (record_at_lem w b (start - 1) ∷ []) = rw v at (run-in-values-in w (records w b) c p range.declared) in
-      rw (ex, ey)
-      (record {
-        is = rw (v, first-is) refl;
-        value = (values.0, values.1);
-        first = rw first-is at (first-in p (engines_in w b) range.tested (measurements-in w (records w b) c p range.declared));
-      })
+    pub run_in : {p : ℕ} → declares (pollutants_in w b) p ≡ true → {k x y : ℕ} → k ≡ kind (record_at_lem w b (start - 1)) → k ≡ run_in_kind
+        → x ≡ measurement (record_at_lem w b (start - 1)) p → y ≡ measurement (record_at_lem w b start) p → CorrectedBy w b p x y
+    run_in {p} declared i e ex ey =
+        let v : run_ins_in w b ≡ record_at_lem w b (start - 1) ∷ [] = rw (← i, e) at (run-in-is sheet) in
+        let c = clean sheet in
+        let values : InRange p (record_at_lem w b (start - 1) ∷ []) = rw v at (run-in-values-in w (records w b) c p declared) in
+        rw (ex, ey)
+        (record {
+          is = rw (v, first-is) refl;
+          value = (values.0, values.1);
+          first = rw first-is at (first-in p (engines_in w b) tested (measurements-in w (records w b) c p declared));
+        })
 
-  pub plain : {k : ℕ} → k ≡ kind (record_at_lem w b (start - 1)) → eqb k run_in_kind ≡ false → CorrectedBy w b p 1 1
+  pub plain : {p k : ℕ} → k ≡ kind (record_at_lem w b (start - 1)) → eqb k run_in_kind ≡ false → CorrectedBy w b p 1 1
   plain i e =
-      let v : run_ins_in w b ≡ [] = rw (← i, e) at (run-in-is range.sheet) in
+      let v : run_ins_in w b ≡ [] = rw (← i, e) at (run-in-is sheet) in
       record { is = rw v refl; value = (omega arith, omega arith); first = (omega arith, omega arith) }
 
 -- ---- comparing products by a quotient

@@ -11,11 +11,11 @@ use values::{any_outside, is_outside};
 // "up to three tests of one vehicle"
 const MOST_TESTS: usize = 3;
 
-// "The answer is another test, or sum and count (declared value and 1 where it stands)."
+// "sum and count (declared value and 1 where it stands)"
 #[derive(Clone, Copy, PartialEq, Eq)]
-pub enum Approval {
-    Another,
-    Value { sum: u32, count: u32 },
+pub struct Approval {
+    pub sum: u32,
+    pub count: u32,
 }
 
 // Test i, counted from 0; 0 where there is none.
@@ -35,8 +35,8 @@ fn stands(declared: u32, k: usize, tests: &[u32]) -> bool
     ((1 <= k) & (100 * first <= 104 * value)) | ((2 <= k) & (100 * both <= 104 * (2 * value)))
 }
 
-// The answer for the declared value and the tests so far.
-pub fn approve(declared: u32, tests: &[u32]) -> Result<Approval, Reason>
+// The answer for the declared value and the tests so far: "another test", where there is no value yet, or sum and count.
+pub fn approve(declared: u32, tests: &[u32]) -> Result<Option<Approval>, Reason>
     ensures { approval_is result ≡ rules.approve declared tests.now }
 {
     let count = tests.len();
@@ -53,17 +53,17 @@ pub fn approve(declared: u32, tests: &[u32]) -> Result<Approval, Reason>
         return Err(Reason::TestAfterDecision);
     }
     if stands(declared, count, tests) {
-        return Ok(Approval::Value {
+        return Ok(Some(Approval {
             sum: declared,
             count: 1,
-        });
+        }));
     }
     if count < MOST_TESTS {
-        return Ok(Approval::Another);
+        return Ok(None);
     }
     // "the approval value is the mean of three"
-    Ok(Approval::Value {
+    Ok(Some(Approval {
         sum: test_at(tests, 0) + test_at(tests, 1) + test_at(tests, 2),
         count: MOST_TESTS as u32,
-    })
+    }))
 }

@@ -10,9 +10,7 @@ use checking::{Refusal, check};
 use layout::Size;
 use lines::Lines;
 use reading::{Step, step_at};
-
-// The refusal of a sheet's length, which names no record.
-const LENGTH: u8 = 1;
+use refusals::Reason;
 
 fn is_engine(step: Step) -> u32
     ensures { result ≡ is_engine step }
@@ -54,7 +52,7 @@ fn with_name(lines: Lines, step: Step, engine: u32) -> Lines
 fn with_place(lines: Lines, sheet: &[u8], refusal: Refusal) -> Lines
     ensures { Adds lines result (place sheet.now refusal.number refusal.place) 42 }
 {
-    if refusal.number == LENGTH {
+    if refusal.number == Reason::Length.number() {
         return lines;
     }
     let record = refusal.place;

@@ -1,6 +1,6 @@
 -- What the limits by number, 0 where a pollutant is not declared, say of the declared pollutants.
-use Rattle.arithmetic.proofs.Basics.{ℕ, zero, suc, ◌+◌, ◌*◌, ◌/◌, ◌≤◌, ◌<◌, arith, ◌≡◌, refl, sym, ◌∙◌, Bool, true, false, not, ◌&&◌, ◌||◌, cond, List, [], ◌∷◌, ◌++◌}
-use Rattle.arithmetic.proofs.Basics.{eqb, ltb, eqb-true, eq-eqb, ne_eqb, or_same, or_swap, or_assoc, by-test, ltb-same, any-update}
+use Rattle.arithmetic.proofs.Basics.{ℕ, zero, suc, ◌≤◌, ◌<◌, arith, ◌≡◌, refl, sym, ◌∙◌, Bool, true, false, not, ◌&&◌, ◌||◌, cond, List, [], ◌∷◌, ◌++◌}
+use Rattle.arithmetic.proofs.Basics.{eqb, eqb-true, eq-eqb, ne_eqb, or_same, or_swap, or_assoc, by-test, any-update}
 use Rattle.rules.specs.Tools.{any}
 use Rattle.rules.specs.Sheet.{Record, Pollutant, pollutants, more_pollutants, measurement, volume, speed, date, numbers, declares, gross}
 use Rattle.rules.specs.Refusals.{particulate_limit_lem, particulates, bad_particulate_lem, bad_value_lem, bad_measurement_lem}
@@ -84,10 +84,6 @@ one-limit test w m (c ∷ ps) h p =
     rw (unlisted w c.number ps h.5 p (omega (arith, eqb-true c.number p e)), ne_eqb c.limit 0 (λ z. omega arith)) (or_same (test c.limit)))
     (λ e. refl))
 
--- x is above L and half of L, rounded down
-half-more : (L x : ℕ) → ltb (L + L / 2) x ≡ ltb (3 * L) (2 * x)
-half-more L x = ltb-same (L + L / 2) x (3 * L) (2 * x) (omega arith)
-
 abbrev over : List Pollutant → Record → (p : ℕ) → Bool
 over ps r p = exceeds (limit_of_lem p ps) (measurement r p)
 
@@ -103,7 +99,7 @@ gross-limit w m (c ∷ ps) h r =
     (any-update (over ps r) (over (c ∷ ps) r) c.number (rw (unlisted w c.number ps h.5 c.number (omega arith)) refl)
     (λ p e. rw (ne_eqb c.number p (λ z. e (sym z))) refl) (numbers w) (in-numbers w c.number (omega arith) h.1)
     ∙ or_swap (any (over ps r) (numbers w)) (over (c ∷ ps) r c.number)
-    ∙ rw (eq-eqb c.number c.number refl, ne_eqb c.limit 0 (λ z. omega arith), half-more c.limit _, ← gross-limit w c.number ps h.5 r) refl)
+    ∙ rw (eq-eqb c.number c.number refl, ne_eqb c.limit 0 (λ z. omega arith), ← gross-limit w c.number ps h.5 r) refl)
 
 -- ---- the program's tests of the pollutants, four and two more
 

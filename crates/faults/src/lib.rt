@@ -3,7 +3,6 @@
 
 ghost use Rattle.std.specs.Prelude.{◌≡◌};
 ghost use Rattle.record.specs.Kinds.{kind_number};
-ghost use Rattle.summary.specs.State.{Limits};
 ghost use Rattle.refusals.specs.Numbers.{number_is, fault_number};
 ghost use Rattle.faults.specs.Faults.{engine_fault_by, stop_fault_lem, unmeasured_fault_lem, fault_by};
 
@@ -24,7 +23,6 @@ use zeros::{stop_unused, unused_from_twelve};
 #[inline(always)]
 #[tactic(auto, unfolding(crate::specs::Faults::engine_fault_by))]
 fn engine_fault(size: Size, s: Summary, r: &[u8], cause: Reason) -> Result<(), Reason>
-    requires { Limits s.limits }
     ensures { fault_number result ≡ engine_fault_by size s r.now (number_is cause) }
 {
     let limits = s.limits;
@@ -87,10 +85,8 @@ fn unmeasured_fault(size: Size, s: Summary, r: &[u8], kind: Kind) -> Result<(), 
 // The refusal of the record r after those of which s tells, the first in the order of the refusals; "2, kind not 1 to 3", and 02, F-1: "record
 // kind 5".
 // For engines and for run-in values there is one call.
-// For `checking` alone, whose loop reads on only behind limits that are in range: so it may require.
 #[tactic(auto, unfolding(crate::specs::Faults::fault_by, crate::specs::Faults::run_in_fault, crate::specs::Faults::unmeasured_fault_lem))]
 pub fn fault_of(size: Size, s: Summary, r: &[u8]) -> Result<(), Reason>
-    requires { Limits s.limits }
     ensures { fault_number result ≡ fault_by size s r.now }
 {
     let kind = Kind::try_from(kind_of(r))?;

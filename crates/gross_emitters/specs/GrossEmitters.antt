@@ -1,5 +1,5 @@
 -- Refusal 9 by what the program keeps of the records before one; faults/proofs/Agreement: it is document 01's.
-use Rattle.std.specs.Prelude.{ℕ, ◌+◌, ◌/◌, Bool, false, not, ◌&&◌, ◌||◌, cond, ltb, eqb}
+use Rattle.std.specs.Prelude.{ℕ, ◌*◌, Bool, false, not, ◌&&◌, ◌||◌, cond, ltb, eqb}
 use Rattle.rules.specs.Tools.{within}
 use Rattle.rules.specs.Sheet.{Record, cause, is_pending, measurement}
 use Rattle.rules.specs.Refusals.{greatest_cause}
@@ -11,7 +11,7 @@ use Rattle.summary.specs.declared.Summary.{Summary}
 
 -- "2x > 3L", of a declared pollutant
 abbrev pub exceeds : (limit x : ℕ) → Bool
-exceeds limit x = not (eqb limit 0) && ltb (limit + limit / 2) x
+exceeds limit x = not (eqb limit 0) && ltb (3 * limit) (2 * x)
 
 abbrev pub exceeds_behind_lem : Size → (limits : Each ℕ) → Record → Bool
 exceeds_behind_lem Twenty limits r = false

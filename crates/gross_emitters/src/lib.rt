@@ -3,7 +3,6 @@
 
 ghost use Rattle.std.specs.Prelude.{◌≡◌};
 ghost use Rattle.rules.specs.Sheet.{measurement};
-ghost use Rattle.summary.specs.State.{LimitRange, Limits};
 ghost use Rattle.gross_emitters.specs.GrossEmitters.{exceeds, exceeds_behind_lem, gross_by, bad_cause_by};
 
 use layout::Size;
@@ -12,17 +11,15 @@ use pollutants::Each;
 use record::{cause_of, measurement_of};
 use summary::Summary;
 
-// "2x > 3L", of a declared pollutant p: x is above L and half of L, rounded down, which stays within 32 bits.
+// "2x > 3L", of a declared pollutant p, in 64 bits, which both products stay within.
 fn exceeds(limit: u32, r: &[u8], p: u32) -> bool
-    requires { LimitRange limit }
     ensures { result ≡ exceeds limit (measurement r.now p) }
 {
-    (limit != 0) & (limit + limit / 2 < measurement_of(r, p))
+    (limit != 0) & (3 * u64::from(limit) < 2 * u64::from(measurement_of(r, p)))
 }
 
 // The same for pollutant 5 or 6.
 fn exceeds_behind(size: Size, limits: Each<u32>, r: &[u8]) -> bool
-    requires { Limits limits }
     ensures { result ≡ exceeds_behind_lem size limits r.now }
 {
     match size {
@@ -34,7 +31,6 @@ fn exceeds_behind(size: Size, limits: Each<u32>, r: &[u8]) -> bool
 // "A gross emitter is a vehicle with 2x > 3L for some pollutant"
 #[tactic(auto, unfolding(crate::specs::GrossEmitters::gross_by))]
 fn is_gross(size: Size, limits: Each<u32>, r: &[u8]) -> bool
-    requires { Limits limits }
     ensures { result ≡ gross_by size limits r.now }
 {
     exceeds(limits.co, r, 1)
@@ -46,12 +42,10 @@ fn is_gross(size: Size, limits: Each<u32>, r: &[u8]) -> bool
 
 // "9, cause": "In plan 4 its cause is 1 to 65,534, any other vehicle's is 0; in plans 1 to 3 cause is 0.", and in plan 5; 02, F-5: 65,535
 // "marks a gross emitter whose finding is pending, and refusal 9 admits it there." So of a gross emitter any number of two bytes but 0.
-// For `faults` alone, which keeps limits in range: so it may require.
 // Inlined: the compiler left it outside the check's loop, which took 1.4 of its time then.
 #[inline(always)]
 #[tactic(auto, unfolding(crate::specs::GrossEmitters::bad_cause_by))]
 pub fn bad_cause(size: Size, s: Summary, r: &[u8]) -> bool
-    requires { Limits s.limits }
     ensures { result ≡ bad_cause_by size s r.now }
 {
     let limits = s.limits;

@@ -1,4 +1,4 @@
--- What a row reads in the table that is lent: the machine keeps a number by its bits, and reads it back.
+-- What a row reads in the plan's table: the machine keeps a number by its bits, and reads it back.
 use Rattle.arithmetic.proofs.Basics.{◌≡◌, ◌∙◌, ℕ, ◌-◌, ◌≤◌, arith, List, ℤ, pos, negsuc, nat_abs}
 use Rattle.std.proofs.Common.{w32, FitsSigned, to_z, of_z, to_z-of_z}
 use Rattle.rules.specs.Plans.{Plan, last_row_lem}

@@ -8,10 +8,12 @@ ghost use Rattle.rules.specs.Logarithm.{squarings};
 ghost use Rattle.rules.specs.Plans as rules;
 ghost use Rattle.rows.specs.Row.{row_is};
 ghost use Rattle.plan.specs.Plan.{plan_is};
-ghost use Rattle.tables.specs.Tables.{Lent, numbers_of_lem, PassNumbers, FailNumbers};
+ghost use Rattle.plan.specs.declared.Plan.TheVariants.{KnownDeviation};
+ghost use Rattle.tables.specs.Tables.{numbers_of_lem, PassNumbers, FailNumbers};
 ghost use Rattle.rows.specs.Ranges.{KnownRanges, RootRanges, RowRange};
 
 use plan::Plan;
+use tables::table::PlanTable;
 
 // What a row says of one pollutant.
 #[derive(Clone, Copy, PartialEq, Eq)]
@@ -28,17 +30,17 @@ const LOGARITHM_UNIT: u64 = 1048576;
 const LOG_OF_TWO: u64 = 693147181;
 
 // Plan 1, known deviation: "Pass if T × 693,147,181 > A × t × ..; fail if less than the same with B."; 02, F-9: "1,048,576 in g itself, in plan 1".
-// D is added − n × level, and T is n × level − added; `table` is the plan's, lent.
+// D is added − n × level, and T is n × level − added; `table` is that of plan 1.
 // Each term that document 01 has with a minus stands on the other side, so that all is unsigned.
 // For `statistics` alone, with sums over the engines of an accepted sheet: so it may require.
-pub fn known_row(n: u64, table: &[[i32; 2]], added: u64, level: u64, deviation: u64) -> Row
+pub fn known_row(n: u64, table: PlanTable, added: u64, level: u64, deviation: u64) -> Row
     requires known_ranges { KnownRanges n added level deviation }
-    requires lent { Lent rules.known_deviation_lem table.now }
+    requires known { table.plan ≡ KnownDeviation }
     ensures { row_is result ≡ rules.decide (rules.known_passes squarings n (pos added -ℤ pos (n * level)) deviation)
         (eqb n (rules.last_row_lem rules.known_deviation_lem))
         (rules.known_fails squarings n (pos added -ℤ pos (n * level)) deviation) }
 {
-    let [a, b] = table[(n - 3) as usize];
+    let [a, b] = table.rows[(n - 3) as usize];
     let unit = deviation * LOGARITHM_UNIT;
     let above = added * LOG_OF_TWO;
     let line = n * (level * LOG_OF_TWO);
@@ -61,20 +63,19 @@ pub fn known_row(n: u64, table: &[[i32; 2]], added: u64, level: u64, deviation: 
     Row::Open
 }
 
-// Plans 2, 4 and 5, which compare with roots. D is added − taken, W is `spread`; `table` is the plan's, lent.
+// Plans 2, 4 and 5, which compare with roots. D is added − taken, W is `spread`; `table` is the plan's.
 // "P = 100,000 × D", "roots never taken": P² is compared with A²W and B²W. "Squares exceed 64 bits". Nothing is divided by √W, and W may be 0.
 // A at or above 0 is asked for first. In what it leaves, as in a row with A below 0, a D above 0 does not pass; and a D of 0 or below, which
 // only A below 0 leaves, can fail by B in the last row alone: so one comparison decides. D's sign chooses between numbers and not between
 // branches, because the processor guesses such a branch wrongly.
 // For `statistics` alone, with sums over the engines of an accepted sheet: so it may require.
-pub fn root_row(plan: Plan, n: u64, table: &[[i32; 2]], added: u64, taken: u64, spread: u64) -> Row
-    requires root_ranges { RootRanges (plan_is plan) n added taken }
-    requires lent { Lent (plan_is plan) table.now }
-    ensures { row_is result ≡ rules.decide (rules.root_passes (numbers_of_lem (plan_is plan) n).A (pos added -ℤ pos taken) (pos spread))
-        (eqb n (rules.last_row_lem (plan_is plan)))
-        (rules.root_fails (numbers_of_lem (plan_is plan) n).B (pos added -ℤ pos taken) (pos spread)) }
+pub fn root_row(n: u64, table: PlanTable, added: u64, taken: u64, spread: u64) -> Row
+    requires { RootRanges (plan_is table.plan) n added taken }
+    ensures { row_is result ≡ rules.decide (rules.root_passes (numbers_of_lem (plan_is table.entry.plan) n).A (pos added -ℤ pos taken) (pos spread))
+        (eqb n (rules.last_row_lem (plan_is table.entry.plan)))
+        (rules.root_fails (numbers_of_lem (plan_is table.entry.plan) n).B (pos added -ℤ pos taken) (pos spread)) }
 {
-    let [a, b] = table[(n - 3) as usize];
+    let [a, b] = table.rows[(n - 3) as usize];
     let over = taken < added;
     let p = 100000 * added.abs_diff(taken);
     if is_within(a < 0, a.unsigned_abs(), over, p, spread) {
@@ -83,7 +84,7 @@ pub fn root_row(plan: Plan, n: u64, table: &[[i32; 2]], added: u64, taken: u64, 
     let x = if over { b } else { a };
     let line = wide::product(square(x.unsigned_abs()), spread);
     if wide::less(wide::product(p, p), line) {
-        return if n == plan.last_row() as u64 {
+        return if n == table.plan.last_row() as u64 {
             Row::Fail
         } else {
             Row::Open

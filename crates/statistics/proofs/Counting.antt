@@ -6,6 +6,7 @@ use Rattle.rules.specs.Sheet.{size}
 use Rattle.rules.specs.Logarithm as rules
 use Rattle.rules.specs.Plans.{count_over, decide, attributes_passes, attributes_fails, last_row_lem, attributes}
 use Rattle.rules.specs.Series.{is_open}
+use Rattle.accepted.specs.Sheets.{AcceptedSheet}
 use Rattle.record.proofs.Places.{measurement-place}
 use Rattle.plan.specs.declared.Plan.TheVariants.{Attributes}
 use Rattle.rows.specs.declared.Row.{Row}
@@ -25,26 +26,26 @@ pub record Counted (w : ℕ) (b : List ℕ) (start p L rows n at over : ℕ) : T
   pub over_is : over ≡ count_over L (correction_in w b p) (measurements_of_lem w b p n)
   pub free : (t : ℕ) → column_is w Attributes b p L t n ≡ is_open
 
-module _ {w : ℕ} {b : List ℕ} {start p L rows : ℕ} {c : Correction} (range : CorrectedRange w b start Attributes p L c 0 rows) where
+module _ {w : ℕ} {b : List ℕ} {start p L rows : ℕ} {c : Correction} (sheet : AcceptedSheet w b attributes start) (range : CorrectedRange w b Attributes p L c 0 rows) where
   pub counted-none : {at : ℕ} → at ≡ size w * start + 4 * p → Counted w b start p L rows 0 at 0
   counted-none e = record { most = omega arith; place = omega (arith, e); over_is = refl; free = λ t. column-none w Attributes b p L t }
 
   module _ {n at over : ℕ} (k : Counted w b start p L rows n at over) (l : n < rows) where
     -- the measurement that is read
     read : {x : ℕ} → x ≡ four b at → x ≡ measured_at w b start p n
-    read e = e ∙ ap (λ (i : ℕ). four b i) k.place ∙ sym (measurement-place _ _ _ _ (measured-range range.column).column)
+    read e = e ∙ ap (λ (i : ℕ). four b i) k.place ∙ sym (measurement-place _ _ _ _ (measured-range sheet range.column).column)
 
     module _ {x : ℕ} (xe : x ≡ four b at) (most : ℕ) (me : (y : ℕ) → y ≤ rules.greatest → ltb most y ≡ ltb (L * c.first) (y * c.value)) where
       -- the engines over the limit with one more
       more : over + bool_byte (ltb most x) ≡ count_over L (correction_in w b p) (measurements_of_lem w b p (n + 1))
       more =
-          let m : x ≤ rules.greatest = rw (read xe) ((measured-range range.column).measures n l).1 in
+          let m : x ≤ rules.greatest = rw (read xe) ((measured-range sheet range.column).measures n l).1 in
           ap (λ (t : Bool). over + bool_byte t) (me x m)
           ∙ ap (λ (f : rules.Correction). over + bool_byte (ltb (L * f.first) (x * f.value))) (sym range.corrects)
-          ∙ over-more range.column n l k.over_is (read xe)
+          ∙ over-more sheet range.column n l k.over_is (read xe)
 
       pub over-few : over + bool_byte (ltb most x) ≤ 32
-      over-few = over-fits range.column {n = n + 1} (omega arith) more
+      over-few = over-fits sheet range.column {n = n + 1} (omega arith) more
 
       -- what the row decides
       pub count-told : 3 ≤ n + 1 → {r s : Row}

@@ -9,7 +9,7 @@ use Rattle.rules.specs.Sheet.{Record, size, records, measurement}
 use Rattle.rules.specs.Plans as plans
 use Rattle.rules.specs.Plans.{count_over}
 use Rattle.rules.specs.Series as rules
-use Rattle.accepted.specs.Sheets.{record_at_lem, run_ins_in, engines_in}
+use Rattle.accepted.specs.Sheets.{record_at_lem, run_ins_in, engines_in, AcceptedSheet}
 use Rattle.accepted.proofs.Causes.{has_cause}
 use Rattle.accepted.proofs.Ranges.{InRange, number_in, measurements-in}
 use Rattle.accepted.proofs.Sheets.{clean, engine-is, caused, rows_fit, last-most, inside, few, record-inside}
@@ -87,11 +87,11 @@ measurement-in p [] r i h = absurd (omega arith)
 measurement-in p (e ∷ es) r zero h = (r.0, r.1)
 measurement-in p (e ∷ es) r (suc i) h = measurement-in p es r.2 i (omega arith)
 
-module _ {w : ℕ} {b : List ℕ} {start : ℕ} {plan : Plan} {p L t rows : ℕ} (range : ColumnRange w b start plan p L t rows) where
+module _ {w : ℕ} {b : List ℕ} {start : ℕ} {plan : Plan} {p L t rows : ℕ} (sheet : AcceptedSheet w b (plan_is plan) start) (range : ColumnRange w b plan p L t rows) where
   pub in-engines : (rows ≤ length (engines_in w b)) × (rows ≤ plans.last_row_lem (plan_is plan)) × (rows ≤ 32)
   in-engines =
       let g = gate-most (before_in w (plan_is plan) b) (length (engines_in w b)) in
-      let f = rows_fit range.sheet in
+      let f = rows_fit sheet in
       (omega arith, omega arith, omega (arith, last-most (plan_is plan)))
 
   -- the measurements are in range
@@ -99,19 +99,19 @@ module _ {w : ℕ} {b : List ℕ} {start : ℕ} {plan : Plan} {p L t rows : ℕ}
   measured-range =
       let l = in-engines.0 in
       record {
-        column = (number_in w (records w b) (clean range.sheet) p range.declared).1;
-        inside = le_trans (mul-le-mul_left (size w) (omega arith)) (inside range.sheet);
-        few = omega (arith, few range.sheet);
+        column = (number_in w (records w b) (clean sheet) p range.declared).1;
+        inside = le_trans (mul-le-mul_left (size w) (omega arith)) (inside sheet);
+        few = omega (arith, few sheet);
         measures = λ i h.
-            rw (← (engine-is range.sheet i (omega arith)))
-            (measurement-in p (engines_in w b) (measurements-in w (records w b) (clean range.sheet) p range.declared) i (omega arith));
+            rw (← (engine-is sheet i (omega arith)))
+            (measurement-in p (engines_in w b) (measurements-in w (records w b) (clean sheet) p range.declared) i (omega arith));
       }
 
   -- the place of a measurement in the sheet: it is a small number, and the bytes have it
   pub place-fits : {n : ℕ} → n ≤ rows → size w * (start + n) + 4 * p < 30000
   place-fits {n} h =
       let m = measured-range in
-      let s = range.sheet.sized in
+      let s = sheet.sized in
       omega (arith, m.few, m.column, mul-le-mul_right start s, mul-le-mul_right n s)
 
   pub place_inside : {n : ℕ} → n < rows → size w * (start + n) + 4 * p + 4 ≤ length b
@@ -137,7 +137,7 @@ module _ {w : ℕ} {b : List ℕ} {start : ℕ} {plan : Plan} {p L t rows : ℕ}
     in_list = omega (arith, in-engines)
 
     first : take (suc n) (engines_in w b) ≡ take n (engines_in w b) ++ (r ∷ [])
-    first = rw (← (engine-is range.sheet n in_list)) (take-suc (engines_in w b) n [] in_list)
+    first = rw (← (engine-is sheet n in_list)) (take-suc (engines_in w b) n [] in_list)
 
     more : measurements_of_lem w b p (suc n) ≡ measurements_of_lem w b p n ++ (measurement r p ∷ [])
     more = rw first (map-append (λ r. measurement r p) (take n (engines_in w b)) (r ∷ []))
@@ -167,7 +167,7 @@ module _ {w : ℕ} {b : List ℕ} {start : ℕ} {plan : Plan} {p L t rows : ℕ}
         rw (e, add-one n)
         (column-next (before_in w (plan_is plan) b) (says w plan b p L t) n
         ∙ (rw o
-        (row-looked w b (suc n) (plan_is plan) (caused range.sheet)
+        (row-looked w b (suc n) (plan_is plan) (caused sheet)
         (gate-free (before_in w (plan_is plan) b) (length (engines_in w b)) n (omega arith)) (says w plan b p L t (suc n)))))
 
 -- what row n + 1 of plan 3 makes of a column that is open, where so many engines are over the limit

@@ -2,8 +2,10 @@
 use Rattle.arithmetic.proofs.Basics.{ℕ, ◌+◌, ◌*◌, ◌%◌, ◌≤◌, ◌<◌, arith, ◌≡◌, refl, sym, ap, ◌∙◌, cond, List, leb, le-leb, lt-leb, get_or}
 use Rattle.rules.specs.Logarithm.{squarings, g}
 use Rattle.rules.specs.Series.{is_open, decided_at}
+use Rattle.accepted.specs.Sheets.{AcceptedSheet}
 use Rattle.logarithm.proofs.Bounds.{g-fits}
 use Rattle.plan.specs.declared.Plan.{Plan}
+use Rattle.plan.specs.Plan.{plan_is}
 use Rattle.rows.specs.declared.Row.{Row}
 use Rattle.decisions.specs.declared.Decision.TheVariants.{Open}
 use Rattle.causes.specs.Causes.{first_row_lem}
@@ -23,7 +25,7 @@ pub record Summed (w : ℕ) (b : List ℕ) (start : ℕ) (plan : Plan) (p L t ro
   pub free : column_is w plan b p L t n ≡ is_open
   pub sums : Sums w b p L n gain level sum squares
 
-module _ {w : ℕ} {b : List ℕ} {start : ℕ} {plan : Plan} {p L t rows : ℕ} {c : Correction} (range : LogarithmsRange w b start plan p L c t rows) where
+module _ {w : ℕ} {b : List ℕ} {start : ℕ} {plan : Plan} {p L t rows : ℕ} {c : Correction} (sheet : AcceptedSheet w b (plan_is plan) start) (range : LogarithmsRange w b plan p L c t rows) where
   -- the limit's logarithm, and what is added to each logarithm and taken away
   module _ {logs : List ℕ} (e : logs ≡ four_from w b start p L rows 0) {u : ℕ} (ue : u ≡ g squarings c.first) where
     limit-is : get_or logs 0 0 ≡ g squarings L
@@ -54,10 +56,10 @@ module _ {w : ℕ} {b : List ℕ} {start : ℕ} {plan : Plan} {p L t rows : ℕ}
 
     -- the sums with one engine more
     more : Sums w b p L (n + 1) gain level (sum + y) (squares + y * y)
-    more = sums-more range.corrected.column n l s.sums (e.each _ refl l)
+    more = sums-more sheet range.corrected.column n l s.sums (e.each _ refl l)
 
     row-most : n + 1 ≤ 32
-    row-most = omega (arith, in-engines range.corrected.column)
+    row-most = omega (arith, in-engines sheet range.corrected.column)
 
     pub sum-few : sum + y ≤ 32 * highest
     sum-few = (sums-fit more row-most).0
@@ -68,11 +70,11 @@ module _ {w : ℕ} {b : List ℕ} {start : ℕ} {plan : Plan} {p L t rows : ℕ}
     module _ {first : ℕ} (f : first ≡ first_row_lem w b) where
       -- what the row makes of the column, where it is looked at and where not
       made : column_is w plan b p L t (n + 1) ≡ cond (leb first (n + 1)) (decided_at (n + 1) (says w plan b p L t (n + 1))) is_open
-      made = row_more range.corrected.column n l s.free f
+      made = row_more sheet range.corrected.column n l s.free f
 
       pub summed-range : first ≤ n + 1 → RowRange plan (n + 1) (sum + y) (squares + y * y) gain level t
       summed-range h =
-          row-range more range.logs (omega (arith, late w b, f, h)) (omega (arith, in-engines range.corrected.column)) range.corrected.column.deviation
+          row-range more range.logs (omega (arith, late w b, f, h)) (omega (arith, in-engines sheet range.corrected.column)) range.corrected.column.deviation
 
       -- what the row decides
       pub sums-told : first ≤ n + 1 → {r z : Row} → RowFrom plan (n + 1) (sum + y) (squares + y * y) gain level t r → r ≡ z

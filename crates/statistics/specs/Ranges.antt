@@ -3,7 +3,7 @@ use Rattle.std.specs.Prelude.{ℕ, ◌*◌, ◌^◌, ◌≤◌, ◌≡◌, Bool,
 use Rattle.rules.specs.Sheet.{declares}
 use Rattle.rules.specs.Plans as rules
 use Rattle.rules.specs.Refusals.{greatest_deviation}
-use Rattle.accepted.specs.Sheets.{pollutants_in, engines_in, AcceptedSheet}
+use Rattle.accepted.specs.Sheets.{pollutants_in, engines_in}
 use Rattle.columns.specs.Columns.{rows_of}
 use Rattle.causes.specs.Causes.{gate_of_lem}
 use Rattle.corrections.specs.declared.Correction.{Correction}
@@ -38,21 +38,20 @@ pub record RowRange (plan : Plan) (n sum squares gain level t : ℕ) : Type 0 wh
   pub taken-most : n * level ≤ 64 * highest
   pub deviation-most : t ≤ greatest_deviation
 
--- a declared pollutant of an accepted sheet, and rows none of which ends the series before its statistics
-pub record ColumnRange (w : ℕ) (b : List ℕ) (start : ℕ) (plan : Plan) (p L t rows : ℕ) : Type 0 where
-  pub sheet : AcceptedSheet w b (plan_is plan) start
+-- a declared pollutant of a tested sheet, and rows none of which ends the series before its statistics
+pub record ColumnRange (w : ℕ) (b : List ℕ) (plan : Plan) (p L t rows : ℕ) : Type 0 where
   pub declared : declares (pollutants_in w b) p ≡ true
   pub limit : Measured L
   pub deviation : t ≤ greatest_deviation
   pub inside : rows ≤ rows_of (gate_of_lem w (plan_is plan) b (length (engines_in w b)))
 
 -- the same with a row or more to look at, and the pollutant's correction
-pub record CorrectedRange (w : ℕ) (b : List ℕ) (start : ℕ) (plan : Plan) (p L : ℕ) (c : Correction) (t rows : ℕ) : Type 0 where
-  pub column : ColumnRange w b start plan p L t rows
+pub record CorrectedRange (w : ℕ) (b : List ℕ) (plan : Plan) (p L : ℕ) (c : Correction) (t rows : ℕ) : Type 0 where
+  pub column : ColumnRange w b plan p L t rows
   pub least : 3 ≤ rows
   pub corrects : Corrects w b p c
 
 -- the same of a plan that takes logarithms
-pub record LogarithmsRange (w : ℕ) (b : List ℕ) (start : ℕ) (plan : Plan) (p L : ℕ) (c : Correction) (t rows : ℕ) : Type 0 where
-  pub corrected : CorrectedRange w b start plan p L c t rows
+pub record LogarithmsRange (w : ℕ) (b : List ℕ) (plan : Plan) (p L : ℕ) (c : Correction) (t rows : ℕ) : Type 0 where
+  pub corrected : CorrectedRange w b plan p L c t rows
   pub logs : takes_logarithms (plan_is plan) ≡ true

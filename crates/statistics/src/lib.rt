@@ -10,41 +10,25 @@ mod logarithms;
 
 use corrections::correction_of;
 use decisions::Decision;
-use fours::measured::MeasuredColumn;
-use layout::Size;
-use plan::Plan;
 use tables::table_of;
+use tested::TestedSheet;
 
 // The decision of a pollutant after the rows to `rows`, none of which ends the series before its statistics.
-// For `tally` alone, with a declared pollutant of a sheet that the check accepts: so it may require.
-pub fn column(
-    size: Size,
-    bytes: &[u8],
-    start: usize,
-    plan: Plan,
-    number: u32,
-    limit: u32,
-    deviation: u32,
-    rows: usize,
-) -> Decision
-    requires { ColumnRange (width_is size) bytes.now start plan number limit deviation rows }
-    ensures { ColumnIs (width_is size) plan bytes.now number limit deviation rows result }
+// For `tally` alone, with a declared pollutant of the sheet: so it may require.
+pub fn column(sheet: TestedSheet, number: u32, limit: u32, deviation: u32, rows: usize) -> Decision
+    requires { ColumnRange (width_is sheet.size) sheet.bytes.now sheet.plan number limit deviation rows }
+    ensures { ColumnIs (width_is sheet.entry.size) sheet.entry.plan sheet.entry.bytes.now number limit deviation rows result }
 {
     // "Rows are walked from 3."
     if rows < 3 {
         return Decision::Open;
     }
-    let correction = correction_of(size, bytes, start, number);
-    let column = MeasuredColumn {
-        size,
-        bytes,
-        start,
-        number,
-        rows,
-    };
+    let correction = correction_of(sheet, number);
     // Plan 3, which has no table, counts the engines over the limit; the others take logarithms. A table is chosen here, once for a column, and lent whole.
-    match table_of(plan) {
-        Some(table) => logarithms::column(column, plan, limit, correction, deviation, table),
-        None => count::column(column, limit, correction),
+    match table_of(sheet.plan) {
+        Some(table) => {
+            logarithms::column(sheet, number, limit, correction, deviation, rows, table)
+        }
+        None => count::column(sheet, number, limit, correction, rows),
     }
 }

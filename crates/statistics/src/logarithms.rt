@@ -1,6 +1,5 @@
 // Plans 1, 2, 4 and 5: the sums of the measurements' logarithms and of their squares, and the rows by them.
-ghost use Rattle.plan.specs.Plan.{plan_is};
-ghost use Rattle.tables.specs.Tables.{Lent};
+ghost use Rattle.std.specs.Prelude.{◌≡◌};
 ghost use Rattle.statistics.specs.Column.{RowFrom};
 ghost use Rattle.statistics.specs.Columns.{LogarithmsIn, DecidesIn};
 ghost use Rattle.statistics.specs.Ranges.{RowRange};
@@ -12,68 +11,67 @@ use fours::measured::MeasuredColumn;
 use fours::{four_with, put_four};
 use plan::Plan;
 use rows::Row;
+use tables::table::PlanTable;
+use tested::TestedSheet;
 
-// What row n of the plan says by the sums, where each d_j is a measurement's logarithm + gain − level; `table` is the plan's, lent.
+// What row n of the table's plan says by the sums, where each d_j is a measurement's logarithm + gain − level.
 // W is n × squares − sum × sum: it stays where every logarithm is moved by the same (rows/proofs/Sums.antt:W-same).
 fn row(
-    plan: Plan,
+    table: PlanTable,
     n: u64,
     sum: u64,
     squares: u64,
     gain: u64,
     level: u64,
     deviation: u64,
-    table: &[[i32; 2]],
 ) -> Row
-    requires row_range { RowRange plan n sum squares gain level deviation }
-    requires lent { Lent (plan_is plan) table.now }
-    ensures { RowFrom plan n sum squares gain level deviation result }
+    requires { RowRange table.plan n sum squares gain level deviation }
+    ensures { RowFrom table.entry.plan n sum squares gain level deviation result }
 {
     let added = sum + n * gain;
-    if let Plan::KnownDeviation = plan {
+    if let Plan::KnownDeviation = table.plan {
         rows::known_row(n, table, added, level, deviation)
     } else {
-        rows::root_row(plan, n, table, added, n * level, n * squares - sum * sum)
+        rows::root_row(n, table, added, n * level, n * squares - sum * sum)
     }
 }
 
 // A column of these plans, by the plan's table: the sums stand in locals, and the logarithms come in fours.
 pub(crate) fn column(
-    column: MeasuredColumn,
-    plan: Plan,
+    sheet: TestedSheet,
+    number: u32,
     limit: u32,
     correction: Correction,
     deviation: u32,
-    table: &[[i32; 2]],
+    rows: usize,
+    table: PlanTable,
 ) -> Decision
-    requires logarithms_range { LogarithmsIn column plan limit correction deviation }
-    requires lent { Lent (plan_is plan) table.now }
-    ensures { DecidesIn column.entry plan limit deviation result }
+    requires logarithms_range { LogarithmsIn sheet number limit correction deviation rows }
+    requires own { table.plan ≡ sheet.plan }
+    ensures { DecidesIn sheet.entry sheet.entry.plan number limit deviation rows result }
 {
-    let first = first_row(column.size, column.bytes, column.start, plan);
+    let first = first_row(sheet);
+    let column = MeasuredColumn {
+        size: sheet.size,
+        bytes: sheet.bytes,
+        start: sheet.start,
+        number,
+        rows,
+    };
     let mut logs = [0u32; 4];
     put_four(&mut logs, limit, column, 0);
     let gain = log2_of(correction.value) as u64;
     let level = logs[0] as u64 + log2_of(correction.first) as u64;
     let mut sum: u64 = 0;
     let mut squares: u64 = 0;
-    for i in 0..column.rows {
+    for i in 0..rows {
         four_with(&mut logs, column, i);
         let n = i + 1;
         let y = logs[n % 4] as u64;
         sum = sum + y;
         squares = squares + y * y;
         if first <= n {
-            match row(
-                plan,
-                n as u64,
-                sum,
-                squares,
-                gain,
-                level,
-                deviation as u64,
-                table,
-            ) {
+            match row(table, n as u64, sum, squares, gain, level, deviation as u64) {
                 Row::Open => {}
                 Row::Pass => {
                     return Decision::Passed(n as u8);

@@ -1,7 +1,7 @@
 -- What is read in a table for a row is the row's number in the definitions; its signs and its size. A table is checked as a whole, by computing it.
 use Rattle.arithmetic.proofs.Basics.{◌≡◌, refl, sym, ◌∙◌, subst, List, [], map, ℕ, zero, suc, ◌+◌, ◌-◌, ◌≤◌, ◌<◌, arith, length, length-map, get_or, ap}
 use Rattle.arithmetic.proofs.Basics.{Bool, true, cond, ◌&&◌, never, and-true, leb, leb-true, eqb, ℤ, pos, neg_ℤ, nat_abs}
-use Rattle.std.specs.Prelude.{Some, None, is_some, unwrap_or}
+use Rattle.std.specs.Prelude.{None, is_some}
 use Rattle.arithmetic.proofs.Tables.{entry, column}
 use Rattle.rules.specs.Plans.{Plan, known_deviation_lem, unknown_deviation_lem, attributes, in_service_lem, corrected, last_row_lem, known_a, known_b, unknown_numbers}
 use Rattle.rules.specs.Plans.{in_service_numbers, corrected_numbers, attributes_passes, attributes_fails}
@@ -29,14 +29,7 @@ each_row f g k count e n h l =
     subst (λ (r : ℕ). f r ≡ g r) (row_at k count (n - k) i ∙ omega arith)
     (column f g (rows_from k count) (rows_from k count) e (n - k) (rw (length-rows k count) i) 0 0)
 
--- ---- plans 1, 2, 4 and 5: the table that a caller has of `table_of`, to lend; where it has none, the plan is 3
-
-pub lent-named : {t : List (List ℤ)} (plan : Plan) → Some t ≡ table_named plan → Lent plan t
-lent-named known_deviation_lem e = record { holds = ap (λ o. unwrap_or o []) e }
-lent-named unknown_deviation_lem e = record { holds = ap (λ o. unwrap_or o []) e }
-lent-named attributes e = never (ap is_some e)
-lent-named in_service_lem e = record { holds = ap (λ o. unwrap_or o []) e }
-lent-named corrected e = record { holds = ap (λ o. unwrap_or o []) e }
+-- ---- where `table_of` gives no table, the plan is 3
 
 pub none-named : (plan : program.Plan) → None ≡ table_named (plan_is plan) → plan ≡ Attributes
 none-named KnownDeviation e = never (ap is_some (sym e))

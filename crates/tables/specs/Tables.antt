@@ -33,7 +33,7 @@ table_named attributes = None
 table_named in_service_lem = Some (table_of in_service_lem)
 table_named corrected = Some (table_of corrected)
 
--- a table that a caller lends is the plan's
+-- a table is the plan's
 pub record Lent (plan : Plan) (t : List (List ℤ)) : Type 0 where
   pub holds : t ≡ table_of plan
 

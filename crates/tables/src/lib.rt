@@ -1,11 +1,14 @@
 // The printed tables of the plans: each row of print on a line, its signs as printed, with its number behind it.
 #![tactic(auto)]
 
-ghost use Rattle.std.specs.Prelude.{◌≡◌, option_copied};
+ghost use Rattle.std.specs.Prelude.{◌≡◌, IfSome, option_map};
 ghost use Rattle.plan.specs.Plan.{plan_is};
 ghost use Rattle.tables.specs.Tables.{table_named, PassNumbers, FailNumbers};
 
+pub mod table;
+
 use plan::Plan;
+use table::PlanTable;
 
 // Plan 1: 001, Appendix 1, Table I.1.5. A and B in thousandths.
 static PLAN_1: [[i32; 2]; 30] = [
@@ -135,18 +138,22 @@ static PLAN_5: [[i32; 2]; 30] = [
     [3876, 3876], // 32
 ];
 
-// The table of a plan, for a caller to lend: plan 3 has none, its pass and fail numbers are below.
+// The table of a plan: plan 3 has none, its pass and fail numbers are below.
 #[tactic(auto, unfolding(rules::specs::Plans::unknown_numbers, rules::specs::Plans::in_service_numbers, rules::specs::Plans::corrected_numbers))]
-pub fn table_of(plan: Plan) -> Option<&'static [[i32; 2]]>
-    ensures { option_copied result ≡ table_named (plan_is plan) }
+pub fn table_of(plan: Plan) -> Option<PlanTable<'static>>
+    ensures plan { IfSome result (λ t. t.plan ≡ plan) }
+    ensures rows { option_map (λ t. t.rows.now) result ≡ table_named (plan_is plan) }
 {
-    match plan {
-        Plan::KnownDeviation => Some(&PLAN_1),
-        Plan::UnknownDeviation => Some(&PLAN_2),
-        Plan::Attributes => None,
-        Plan::InService => Some(&PLAN_4),
-        Plan::Corrected => Some(&PLAN_5),
-    }
+    let rows: &'static [[i32; 2]] = match plan {
+        Plan::KnownDeviation => &PLAN_1,
+        Plan::UnknownDeviation => &PLAN_2,
+        Plan::Attributes => {
+            return None;
+        }
+        Plan::InService => &PLAN_4,
+        Plan::Corrected => &PLAN_5,
+    };
+    Some(PlanTable { plan, rows })
 }
 
 // Plan 3's pass numbers, of the rows 4 to 19.

@@ -16,6 +16,7 @@ use plan::Plan;
 use pollutants::Each;
 use record::{Kind, deviation_of, limit_of, number_of, record_at};
 use statistics::column;
+use tested::TestedSheet;
 
 // A verdict with its engine; for another, the engines so far, and for held the row. A fail has its ground in its name.
 #[derive(Clone, Copy, PartialEq, Eq)]
@@ -153,10 +154,15 @@ pub fn judgement_of(sheet: AcceptedSheet) -> Judgement
     ensures { JudgementIs (width_is sheet.entry.size) sheet.entry.bytes.now result }
 {
     let AcceptedSheet { size, bytes, said } = sheet;
-    let plan = Plan::of(said.plan);
     let declared = said.pollutants as usize;
     let start = said.head as usize;
-    let gate = gate_of(size, bytes, start, said.engines as usize, plan);
+    let tested = TestedSheet {
+        size,
+        bytes,
+        plan: Plan::of(said.plan),
+        start,
+    };
+    let gate = gate_of(tested, said.engines as usize);
     let mut t = Tally {
         rows: gate.rows(),
         latest: 0,
@@ -168,10 +174,7 @@ pub fn judgement_of(sheet: AcceptedSheet) -> Judgement
         let r = record_at(size, bytes, k);
         let number = number_of(r);
         let d = column(
-            size,
-            bytes,
-            start,
-            plan,
+            tested,
             number,
             limit_of(r),
             deviation_of(r),

@@ -5,4 +5,4 @@ use Rattle.causes.specs.Causes.{equal_causes_lem}
 use Rattle.causes.proofs.equal_causes.Given as goal
 
 abbrev pub invariant-loop-k : goal.invariant-loop-k
-invariant-loop-k l = (l.count ≤ l.k) × (l.count ≡ equal_causes_lem (width_is l.size) l.bytes l.k l.cause)
+invariant-loop-k l = (l.count ≤ l.k) × (l.count ≡ equal_causes_lem (width_is l.sheet.size) l.sheet.bytes.now l.k l.cause)

@@ -4,4 +4,4 @@ use Rattle.causes.proofs.Gating.{Gated}
 use Rattle.causes.proofs.in_service_gate.Given as goal
 
 abbrev pub invariant-loop-n : goal.invariant-loop-n
-invariant-loop-n l = Gated (width_is l.size) l.bytes l.engines l.n l.repeated l.pending
+invariant-loop-n l = Gated (width_is l.sheet.size) l.sheet.bytes.now l.engines l.n l.repeated l.pending

@@ -4,15 +4,11 @@ use Rattle.rules.specs.Sheet.{size}
 use Rattle.layout.specs.Sizes.{width_is}
 use Rattle.refusals.specs.Numbers.{fault_number}
 use Rattle.refusals.proofs.Positive.{number-not-0}
-use Rattle.faults.proofs.Agreement.{limits-fit}
 use Rattle.checking.proofs.Progress.{begin, room, faulty, next, done}
 use Rattle.checking.proofs.check_after.Goals as goal
 
 pub loop-k-init : goal.loop-k-init
 loop-k-init c = begin _ c.requires
-
-pub fault_of-requires : goal.fault_of-requires
-fault_of-requires c = limits-fit c.loop-k.invariant.agrees
 
 pub returns-in-Err : goal.returns-in-Err
 returns-in-Err c =

@@ -4,14 +4,14 @@ use Rattle.lines.proofs.Written.{add_none, add-word, add-then}
 use Rattle.explaining.specs.Explanation.{place}
 use Rattle.explaining.proofs.with_place.Goals as goal
 
-pub returns-then-refusal-eq-LENGTH : goal.returns-then-refusal-eq-LENGTH
+pub returns-then-refusal-number : goal.returns-then-refusal-number
 unfolding place
-returns-then-refusal-eq-LENGTH c = rw (eq-eqb _ 1 c.if-refusal-eq-LENGTH.true) (add_none _ 42)
+returns-then-refusal-number c = rw (eq-eqb _ 1 (rw c.number.ensures at c.if-refusal-number.true)) (add_none _ 42)
 
 pub returns : goal.returns
 unfolding place
 returns c =
     let named = rw (c.engines_through-engine.ensures, c.step_at-step.ensures) at c.with_name.ensures in
-    rw (ne_eqb _ 1 c.if-refusal-eq-LENGTH.false)
+    rw (ne_eqb _ 1 (rw c.number.ensures at c.if-refusal-number.false))
     (add-then (add-word c.with_word.ensures)
     (add-then c.with_number.ensures (add-then (add-word c.with_word-lines.ensures) (add-then named (add-word c.with_word-2.ensures)))))

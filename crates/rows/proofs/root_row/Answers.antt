@@ -43,14 +43,14 @@ less-is x w e f g h = e ∙ ap₂ ltb f (g ∙ ap (λ s. s * w) h)
 
 pub returns-then-is_within : goal.returns-then-is_within
 returns-then-is_within c =
-    let k = c.requires.root_ranges in
-    let i = within-is k c.requires.lent _ c.abs_diff-p.ensures c.is_within.ensures c.unsigned_abs.ensures.value in
+    let k = c.requires in
+    let i = within-is k c.args.table.holds _ c.abs_diff-p.ensures c.is_within.ensures c.unsigned_abs.ensures.value in
     within (numbers k) _ _ _ _ c.abs_diff-p.ensures (sym i ∙ c.if-is_within.true)
 
 pub returns-then-n-last_row : goal.returns-then-n-last_row
 returns-then-n-last_row c =
-    let k = c.requires.root_ranges in
-    let l = c.requires.lent in
+    let k = c.requires in
+    let l = c.args.table.holds in
     let u = c.unsigned_abs-2.ensures.value in
     let i = within-is k l _ c.abs_diff-p.ensures c.is_within.ensures c.unsigned_abs.ensures.value in
     let x : IsChosen k c.unsigned_abs-2.result = elim c.if-over.branch [ then-over w ↦ B-chosen k l u w.if-over.true w.x-is | else-over w ↦ A-chosen k l u w.if-over.false w.x-is ] in
@@ -59,8 +59,8 @@ returns-then-n-last_row c =
 
 pub returns-else-n-last_row : goal.returns-else-n-last_row
 returns-else-n-last_row c =
-    let k = c.requires.root_ranges in
-    let l = c.requires.lent in
+    let k = c.requires in
+    let l = c.args.table.holds in
     let u = c.unsigned_abs-2.ensures.value in
     let i = within-is k l _ c.abs_diff-p.ensures c.is_within.ensures c.unsigned_abs.ensures.value in
     let x : IsChosen k c.unsigned_abs-2.result = elim c.if-over.branch [ then-over w ↦ B-chosen k l u w.if-over.true w.x-is | else-over w ↦ A-chosen k l u w.if-over.false w.x-is ] in
@@ -69,8 +69,8 @@ returns-else-n-last_row c =
 
 pub returns-then-over-2 : goal.returns-then-over-2
 returns-then-over-2 c =
-    let k = c.requires.root_ranges in
-    let l = c.requires.lent in
+    let k = c.requires in
+    let l = c.args.table.holds in
     let u = c.unsigned_abs-2.ensures.value in
     let i = within-is k l _ c.abs_diff-p.ensures c.is_within.ensures c.unsigned_abs.ensures.value in
     let x : IsChosen k c.unsigned_abs-2.result = elim c.if-over.branch [ then-over w ↦ B-chosen k l u w.if-over.true w.x-is | else-over w ↦ A-chosen k l u w.if-over.false w.x-is ] in
@@ -79,8 +79,8 @@ returns-then-over-2 c =
 
 pub returns-else-over-2 : goal.returns-else-over-2
 returns-else-over-2 c =
-    let k = c.requires.root_ranges in
-    let l = c.requires.lent in
+    let k = c.requires in
+    let l = c.args.table.holds in
     let u = c.unsigned_abs-2.ensures.value in
     let i = within-is k l _ c.abs_diff-p.ensures c.is_within.ensures c.unsigned_abs.ensures.value in
     let x : IsChosen k c.unsigned_abs-2.result = elim c.if-over.branch [ then-over w ↦ B-chosen k l u w.if-over.true w.x-is | else-over w ↦ A-chosen k l u w.if-over.false w.x-is ] in

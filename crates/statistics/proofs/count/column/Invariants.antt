@@ -4,4 +4,4 @@ use Rattle.statistics.proofs.Counting.{Counted}
 use Rattle.statistics.proofs.count.column.Given as goal
 
 abbrev pub invariant-loop-i : goal.invariant-loop-i
-invariant-loop-i l = let k = l.column in Counted (width_is k.size) k.bytes.now k.start k.number l.limit k.rows l.i l.at l.over
+invariant-loop-i l = let s = l.sheet in Counted (width_is s.size) s.bytes.now s.start l.number l.limit l.rows l.i l.at l.over

@@ -6,5 +6,5 @@ use Rattle.statistics.proofs.logarithms.column.Given as goal
 
 abbrev pub invariant-loop-i : goal.invariant-loop-i
 invariant-loop-i l =
-    let k = l.column in
-    Summed (width_is k.size) k.bytes.now k.start l.plan k.number l.limit l.deviation k.rows l.i l.logs l.gain l.level l.sum l.squares
+    let s = l.sheet in
+    Summed (width_is s.size) s.bytes.now s.start s.plan l.number l.limit l.deviation l.rows l.i l.logs l.gain l.level l.sum l.squares

@@ -25,4 +25,4 @@ pub returns-in_default : goal.returns-in_default
 returns-in_default c = λ L k xs s.
     c.root_row.ensures
     ∙ (rw (s.count, s.sum_is, s.squares_is, s.gain_is, s.level_is)
-    (sym (root-row-is squarings L _ k xs (plan_is c.args.plan) (compares c.args.plan c.in_default.not-KnownDeviation c.requires.row_range.logs))))
+    (sym (root-row-is squarings L _ k xs (plan_is c.args.table.plan) (compares c.args.table.plan c.in_default.not-KnownDeviation c.requires.logs))))

@@ -1,6 +1,6 @@
 -- Each kind's record is counted as the definition has it.
 use Rattle.std.specs.Prelude.{Ok}
-use Rattle.arithmetic.proofs.Basics.{◌≡◌, refl, sym, ap, ◌∙◌}
+use Rattle.arithmetic.proofs.Basics.{refl, sym, ap, ◌∙◌}
 use Rattle.record.proofs.KindNumbers.{number-of-kind, no-kind}
 use Rattle.summary.specs.State.{summary_with}
 use Rattle.summary.proofs.Summary.with.Goals as goal
