@@ -4,14 +4,13 @@
 // On an accepted sheet the gross emitters are the vehicles with a cause, so outside plan 4 there are none.
 #![tactic(auto)]
 
-ghost use Rattle.std.specs.Prelude.{◌≡◌, ◌≤◌, ◌<◌, not, ◌&&◌, ◌||◌, leb, eqb, length};
+ghost use Rattle.std.specs.Prelude.{◌≡◌, not, ◌&&◌, ◌||◌, ◌+◌, leb, eqb};
 ghost use Rattle.rules.specs.Sheet.{is_pending};
 ghost use Rattle.plan.specs.Plan.{plan_is};
-ghost use Rattle.plan.specs.declared.Plan.TheVariants.{InService};
 ghost use Rattle.layout.specs.Sizes.{width_is};
 ghost use Rattle.columns.specs.Columns.{rows_of};
-ghost use Rattle.tested.specs.Tested.{engines_of};
 ghost use Rattle.causes.specs.Causes.{cause_in, equal_causes_lem, repeats_by, gate_is, gate_of_lem, in_service_gate_lem, first_row_lem};
+ghost use Rattle.causes.specs.Ranges.{EnginesRange, InServiceRange, GateRange, FirstRange};
 
 use plan::Plan;
 use record::{PENDING, cause_of, record_at};
@@ -43,7 +42,7 @@ impl Gate {
 
 // The cause of the vehicle behind k engines.
 fn cause_at(sheet: TestedSheet, k: usize) -> u32
-    requires { k < length (engines_of sheet) }
+    requires { EnginesRange sheet (k + 1) }
     ensures { result ≡ cause_in (width_is sheet.entry.size) sheet.entry.bytes.now k }
 {
     cause_of(record_at(sheet.size, sheet.bytes, sheet.start + k))
@@ -51,7 +50,7 @@ fn cause_at(sheet: TestedSheet, k: usize) -> u32
 
 // How many of the first n engines have the cause.
 fn equal_causes(sheet: TestedSheet, n: usize, cause: u32) -> usize
-    requires { n ≤ length (engines_of sheet) }
+    requires { EnginesRange sheet n }
     ensures { result ≡ equal_causes_lem (width_is sheet.entry.size) sheet.entry.bytes.now n cause }
 {
     let mut count: usize = 0;
@@ -63,7 +62,7 @@ fn equal_causes(sheet: TestedSheet, n: usize, cause: u32) -> usize
 
 // Whether the cause is one that is known, and one of the first n engines has it: "two equal known causes".
 fn repeats(sheet: TestedSheet, n: usize, cause: u32) -> bool
-    requires { n ≤ length (engines_of sheet) }
+    requires { EnginesRange sheet n }
     ensures { result ≡ repeats_by (width_is sheet.entry.size) sheet.entry.bytes.now n cause }
 {
     if (cause == 0) | (cause == PENDING) {
@@ -74,8 +73,7 @@ fn repeats(sheet: TestedSheet, n: usize, cause: u32) -> bool
 
 // The rows of plan 4. Without a gross emitter they are not gone through; with two or more a series that reaches the last row is referred.
 fn in_service_gate(sheet: TestedSheet, engines: usize) -> Gate
-    requires in_service { sheet.plan ≡ InService }
-    requires all { engines ≡ length (engines_of sheet) }
+    requires { InServiceRange sheet engines }
     ensures { gate_is result ≡ in_service_gate_lem (width_is sheet.entry.size) sheet.entry.bytes.now engines }
 {
     let emitters = engines - equal_causes(sheet, engines, 0);
@@ -105,7 +103,7 @@ fn in_service_gate(sheet: TestedSheet, engines: usize) -> Gate
 
 // The rows of the sheet; plans 1 to 3 and 5 end no series before a row's statistics. For `tally` alone, which has the number of engines from the check: so it may require.
 pub fn gate_of(sheet: TestedSheet, engines: usize) -> Gate
-    requires { engines ≡ length (engines_of sheet) }
+    requires { GateRange sheet engines }
     ensures { gate_is result ≡ gate_of_lem (width_is sheet.entry.size) (plan_is sheet.entry.plan) sheet.entry.bytes.now engines }
 {
     let rows = engines as u8;
@@ -118,7 +116,7 @@ pub fn gate_of(sheet: TestedSheet, engines: usize) -> Gate
 // The first row whose statistics are looked at, of a sheet with three engines or more; 02, F-11: "only row 3 is left open for gross
 // emitters". For `statistics` alone, likewise.
 pub fn first_row(sheet: TestedSheet) -> usize
-    requires { 3 ≤ length (engines_of sheet) }
+    requires { FirstRange sheet }
     ensures { result ≡ first_row_lem (width_is sheet.entry.size) sheet.entry.bytes.now }
 {
     if sheet.plan == Plan::InService && (0..3).any(|k| cause_at(sheet, k) != 0) {

@@ -11,6 +11,10 @@ pub record Walked (w : ℕ) (low high : List ℕ) (run_in_lem : Bool) (start : �
   pub differing : differs ≡ some (record_differs w low high run_in_lem start) k
   pub crossing : crosses ≡ some (record_crosses w low high run_in_lem start) k
 
+-- before the first
+pub none_yet : (w : ℕ) (low high : List ℕ) (run_in_lem : Bool) (start : ℕ) → Walked w low high run_in_lem start false false 0
+none_yet w low high run_in_lem start = record { few = omega arith; differing = refl; crossing = refl }
+
 module _ {w : ℕ} {low high : List ℕ} {run_in_lem : Bool} {start : ℕ} {differs crosses : Bool} {k : ℕ} (s : Walked w low high run_in_lem start differs crosses k) where
   -- behind the last
   module _ (h : length low / size w ≤ k) where

@@ -1,10 +1,15 @@
--- The tests of a record's numbers in two sheets are those of the definition.
-use Rattle.arithmetic.proofs.Basics.{ℕ, ◌+◌, add_assoc, ◌≡◌, Bool, false, ◌||◌, List, or_same, or_assoc}
+-- A record's numbers in two sheets: they lie in both, and their tests are those of the definition.
+use Rattle.arithmetic.proofs.Basics.{ℕ, ◌+◌, ◌≤◌, add_assoc, arith, ◌≡◌, Bool, false, ◌||◌, List, or_same, or_assoc}
 use Rattle.rules.specs.Tools.{four}
 use Rattle.layout.specs.declared.Size.{Size}
 use Rattle.layout.specs.declared.Size.TheVariants.{Twenty, TwentyEight}
 use Rattle.layout.specs.Sizes.{width_is}
+use Rattle.comparing.specs.Ranges.{BothRange}
 use Rattle.comparing.specs.Records.{disagree, either_disagrees_lem, any_disagrees}
+
+-- the first of bytes that lie in both
+pub first_of : {i many low high : ℕ} → BothRange i many low high → (m : ℕ) → m ≤ many → BothRange i m low high
+first_of r m h = record { in_low = omega (arith, r.in_low); in_high = omega (arith, r.in_high) }
 
 four-tests : (a b c d : Bool) → a || b || (c || d) ≡ a || (b || (c || (d || false)))
 four-tests a b c d = simp (or_same, or_assoc)

@@ -13,7 +13,7 @@ use Rattle.converting.specs.Recasting.{recast, RecastRange}
 -- ---- a part of the output
 
 -- the bytes o with the part p from `at` on
-abbrev put_at : (o : List ℕ) → (at : ℕ) → (p : List ℕ) → List ℕ
+abbrev pub put_at : (o : List ℕ) → (at : ℕ) → (p : List ℕ) → List ℕ
 put_at o at p = take at o ++ (p ++ drop (at + length p) o)
 
 -- M is written from the start on, and behind it stands what the output held
@@ -27,7 +27,7 @@ written-more M held o p at h e =
     sym (drop-drop (length p) (length M) (M ++ rest)) ∙ ap (drop (length p)) (drop_at M rest (length M) refl) ∙ drop-drop (length p) (length M) held ∙ ap (λ (n : ℕ). drop n held) (sym (length-append M p)) in
     rw (h, ← e, take_at M rest (length M) refl, d) (sym (append_assoc M p (drop (length (M ++ p)) held)))
 
-put-wrote : (o p : List ℕ) (at n : ℕ) → n ≡ length p → {y : List ℕ} → y ≡ p → put_mid at n o y ≡ put_at o at p
+pub put-wrote : (o p : List ℕ) (at n : ℕ) → n ≡ length p → {y : List ℕ} → y ≡ p → put_mid at n o y ≡ put_at o at p
 put-wrote o p at n m q = rw (q, m, drop-drop (length p) at o) refl
 
 length-put : (o p : List ℕ) (at : ℕ) → at + length p ≤ length o → length (put_at o at p) ≡ length o

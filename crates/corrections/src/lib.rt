@@ -1,13 +1,11 @@
 // Document 02, F-2: "Makers run in the first engine and correct the others". What corrects a pollutant's column, by the sheet.
 #![tactic(auto)]
 
-ghost use Rattle.std.specs.Prelude.{◌≡◌, ℕ, ◌*◌, ◌≤◌, true, ltb, length};
+ghost use Rattle.std.specs.Prelude.{◌≡◌, ℕ, ◌*◌, ◌≤◌, ltb};
 ghost use Rattle.rules.specs.Logarithm.{greatest, squarings, g};
-ghost use Rattle.rules.specs.Sheet.{declares};
 ghost use Rattle.layout.specs.Sizes.{width_is};
 ghost use Rattle.logarithm.specs.Four.{Measured};
-ghost use Rattle.tested.specs.Tested.{pollutants_of, engines_of};
-ghost use Rattle.corrections.specs.Corrections.{Corrects};
+ghost use Rattle.corrections.specs.Corrections.{CorrectionRange, Corrects};
 
 pub mod factors;
 
@@ -20,8 +18,7 @@ use values::GREATEST;
 // The correction of a declared pollutant. The run-in values, if there are any, stand right before the first engine's record, which is the one at `start`.
 // For `statistics` alone, with a pollutant that the sheet declares, and a sheet that has an engine: so it may require.
 pub fn correction_of(sheet: TestedSheet, number: u32) -> Correction
-    requires declared { declares (pollutants_of sheet) number ≡ true }
-    requires tested { 1 ≤ length (engines_of sheet) }
+    requires { CorrectionRange sheet number }
     ensures { Corrects (width_is sheet.entry.size) sheet.entry.bytes.now number result }
 {
     let r = record_at(sheet.size, sheet.bytes, sheet.start - 1);

@@ -10,14 +10,14 @@ use Rattle.rules.specs.Refusals.{is_kind, misplaced, last_kind, bad_small_engine
 use Rattle.accepted.proofs.Faultless.{Clean, clean-join, Faultless, faultless, by_kind, is_other, is_measured, of_kind-none, last-kind, placed-so, small-engine-behind}
 use Rattle.accepted.proofs.Causes.{plan-append}
 use Rattle.accepted.proofs.Engines.{heading-parts, counts}
-use Rattle.accepted.proofs.ByNumber.{limit_of_lem, InOrder, in_order, declared-one, declared-other, newest-snoc}
+use Rattle.accepted.proofs.ByNumber.{limit_of_lem, InOrder, in_order, declared-one, declared-other, newest-snoc, limit-most}
 use Rattle.layout.specs.declared.Size.{Size}
 use Rattle.layout.specs.Sizes.{width_is}
 use Rattle.record.specs.Quantities.{quantity}
 use Rattle.pollutants.specs.Each.{with_lem}
 use Rattle.layout.proofs.Sizes.{width-range}
 use Rattle.summary.specs.declared.Summary.{Summary}
-use Rattle.summary.specs.State.{nothing, summary_with, misplaces_others_lem, misplaces_run_in_lem}
+use Rattle.summary.specs.State.{nothing, summary_with, misplaces_others_lem, misplaces_run_in_lem, LimitRange, Limits}
 use Rattle.zeros.specs.Zeros.{unused_from_twelve_lem}
 use Rattle.measurements.specs.Measurements.{bad_measurement_by, bad_behind_lem}
 use Rattle.small_engines.specs.SmallEngines.{bad_small_engine_by, small_engine_fault_lem}
@@ -156,7 +156,14 @@ module _ {z : Size} {before : List Record} {s : Summary} (a : Agrees z before s)
   unfolding declared of_kind
   order = in_order (width_is z) [] before a.clean
 
-  -- no count is above the number of records
+  -- the limits are in range, and no count is above the number of records
+  pub limits-fit : Limits s.limits
+  unfolding quantity
+  limits-fit = record { co = fits 1; hc = fits 2; nox = fits 3; pm = fits 4; fifth = fits 5; sixth = fits 6 }
+    where
+      fits : (p : ℕ) → LimitRange (quantity s.limits p)
+      fits p = record { most = rw (a.limit_is p) (limit-most (width_is z) 0 (declared before) order p) }
+
   pub counts-fit : (s.pollutants ≤ s.head) × (s.head + s.engines ≤ length before)
   unfolding declared
   counts-fit =

@@ -2,9 +2,8 @@
 // For `statistics` alone, with a column of an accepted sheet: so they may require.
 #![tactic(auto)]
 
-ghost use Rattle.std.specs.Prelude.{◌≡◌, ◌+◌, ◌<◌, ◌≤◌};
-ghost use Rattle.logarithm.specs.Four.{Measured};
-ghost use Rattle.fours.specs.Columns.{measured_in, four_in, LogsIn};
+ghost use Rattle.std.specs.Prelude.{◌≡◌, ◌+◌};
+ghost use Rattle.fours.specs.Columns.{measured_in, four_in, LogsIn, FourRange, NextRange};
 
 pub mod measured;
 
@@ -31,8 +30,7 @@ impl MeasuredColumn<'_> {
 // Inlined by word: otherwise the compiler leaves the call, and a column of three rows takes a tenth longer.
 #[inline(always)]
 pub fn put_four(logs: &mut [u32; 4], first: u32, column: MeasuredColumn, i: usize)
-    requires number { Measured first }
-    requires some { i ≤ column.rows }
+    requires { FourRange first column i }
     ensures { logs.new ≡ four_in column.entry first i }
 {
     *logs = log2_four([
@@ -45,8 +43,7 @@ pub fn put_four(logs: &mut [u32; 4], first: u32, column: MeasuredColumn, i: usiz
 
 // The four that row i + 1 stands in, from the one that row i stands in: a new one at every fourth row. An engine that is left alone takes `log2`.
 pub fn four_with(logs: &mut [u32; 4], column: MeasuredColumn, i: usize)
-    requires last { LogsIn logs.old column i }
-    requires some { i < column.rows }
+    requires { NextRange logs.old column i }
     ensures { LogsIn logs.new column.entry (i + 1) }
 {
     if (i + 1) % 4 == 0 {

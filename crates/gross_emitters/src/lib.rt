@@ -11,11 +11,11 @@ use pollutants::Each;
 use record::{cause_of, measurement_of};
 use summary::Summary;
 
-// "2x > 3L", of a declared pollutant p, in 64 bits, which both products stay within.
+// "2x > 3L", of a declared pollutant p: x is above L and half of L, rounded down. Where that sum is above 32 bits no x is above it.
 fn exceeds(limit: u32, r: &[u8], p: u32) -> bool
     ensures { result ≡ exceeds limit (measurement r.now p) }
 {
-    (limit != 0) & (3 * u64::from(limit) < 2 * u64::from(measurement_of(r, p)))
+    (limit != 0) & (limit.saturating_add(limit / 2) < measurement_of(r, p))
 }
 
 // The same for pollutant 5 or 6.
@@ -29,6 +29,8 @@ fn exceeds_behind(size: Size, limits: Each<u32>, r: &[u8]) -> bool
 }
 
 // "A gross emitter is a vehicle with 2x > 3L for some pollutant"
+// Inlined, as `bad_cause` is.
+#[inline(always)]
 #[tactic(auto, unfolding(crate::specs::GrossEmitters::gross_by))]
 fn is_gross(size: Size, limits: Each<u32>, r: &[u8]) -> bool
     ensures { result ≡ gross_by size limits r.now }

@@ -5,6 +5,7 @@ use Rattle.rules.specs.Series.{Pair}
 use Rattle.rules.specs.Operations.{judge}
 use Rattle.rules.specs.Ranges as rules
 use Rattle.checking.specs.declared.Refusal.{Refusal}
+use Rattle.checking.specs.declared.sheet.AcceptedSheet.{AcceptedSheet}
 use Rattle.tally.specs.declared.Verdict.{Verdict}
 use Rattle.tally.specs.Judgements.{verdict_is}
 use Rattle.judging_ranges.specs.declared.Range.{Range}
@@ -22,3 +23,7 @@ range_is (Err r) = rules.turned_away r.number r.place
 -- what judging answers for the bytes of a sheet, whatever its pairs
 abbrev pub VerdictSays : (w : ℕ) → List ℕ → Verdict → Type 0
 VerdictSays w b v = (pairs : List Pair) × (judge w squarings b ≡ verdict_is v pairs)
+
+-- the records of both sheets are of one size
+pub record BothSized (low high : AcceptedSheet) : Type 0 where
+  pub same_size : low.size ≡ high.size

@@ -7,7 +7,7 @@ ghost use Rattle.rules.specs.Refusals.{accepted};
 ghost use Rattle.rules.specs.Operations.{judge};
 ghost use Rattle.rules.specs.Ranges as rules;
 ghost use Rattle.layout.specs.Sizes.{width_is};
-ghost use Rattle.judging_ranges.specs.Ranges.{range_of, range_is, VerdictSays};
+ghost use Rattle.judging_ranges.specs.Ranges.{range_of, range_is, VerdictSays, BothSized};
 
 use checking::sheet::AcceptedSheet;
 use checking::{Refusal, check_sheet, why_refused};
@@ -36,7 +36,7 @@ fn verdict_of(sheet: AcceptedSheet) -> Verdict
 // Of two sheets that are not turned away: where the high sheet passes every sheet between them does, and where the low sheet fails every one
 // does. Each is judged once, and the low one only where the high one does not pass.
 fn surely(low: AcceptedSheet, high: AcceptedSheet) -> Range
-    requires { low.size ≡ high.size }
+    requires { BothSized low high }
     ensures { range_of result ≡ rules.range_by accepted (judge (width_is low.entry.size) squarings low.entry.bytes.now) (judge (width_is low.entry.size) squarings high.entry.bytes.now) }
 {
     if let Verdict::Pass(n) = verdict_of(high) {
@@ -55,7 +55,7 @@ fn surely(low: AcceptedSheet, high: AcceptedSheet) -> Range
 
 // Of two sheets of the same size that the check accepts.
 fn judge_accepted(low: AcceptedSheet, high: AcceptedSheet) -> Result<Range, Refusal>
-    requires { low.size ≡ high.size }
+    requires { BothSized low high }
     ensures { range_is result ≡ rules.range (width_is low.entry.size) squarings low.entry.bytes.now high.entry.bytes.now }
 {
     // "27, sheets differ elsewhere"

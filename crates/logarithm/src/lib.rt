@@ -46,6 +46,7 @@ fn squared(x: Unfinished) -> Unfinished
 }
 
 // "For m from 1 to 9,999,999 .. Any other m gets 0": a whole number that is less than two below 1,048,576 times the logarithm of m to base 2.
+#[tactic(auto, unfolding(rules::specs::Logarithm::g))]
 pub fn log2(m: u32) -> u32
     ensures { result ≡ g squarings m }
 {

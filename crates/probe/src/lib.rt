@@ -55,11 +55,12 @@ pub extern "C" fn probe_lines(sheet: &[u8], output: &mut [u8]) -> usize
 }
 
 // A reader that stands at the start is moved on k times, or to the end.
+// By `while`: so the compiler works out where it stands, and with a `for` over the moves it goes through them.
 fn walked(size: usize, sheet: &[u8], k: usize) -> usize
     ensures { result ≡ reached size sheet.now k }
 {
     let mut at: usize = 0;
-    for _ in 0..k {
+    while at < k {
         let turn = turn_at(size, sheet, at);
         if turn.left == 0 {
             return at;

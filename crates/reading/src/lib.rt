@@ -175,7 +175,8 @@ pub struct Turn {
     pub left: usize,
 }
 
-// A reader that stands at the number is read and moved on.
+// A reader that stands at the number is read and moved on. Inlined, so that a walk which asks for no step reads none.
+#[inline(always)]
 pub fn turn_at(size: usize, bytes: &[u8], at: usize) -> Turn
     ensures { result ≡ turn_at_lem size bytes.now at }
 {

@@ -5,6 +5,11 @@ use Rattle.rules.specs.Plans.{Row, pass, fail, undecided, decide, root_passes, r
 use Rattle.tables.specs.Tables.{RootNumbers}
 use Rattle.rows.proofs.RootTests.{negative-low, negative-high, most-low, most-high, least-high, least-low}
 
+-- of two numbers that are at most m, so is the one that is chosen
+pub chosen-most : {r m : ℕ} (t : Bool) (x y : ℕ) → r ≡ cond t x y → x ≤ m → y ≤ m → r ≤ m
+chosen-most true x y e h k = omega arith
+chosen-most false x y e h k = omega arith
+
 -- x²W above 0 is above 0 for every other number too
 other-line : (a b w : ℕ) → 1 ≤ b → 0 < a * a * w → 0 < b * b * w
 other-line a b zero h l = absurd (omega arith)

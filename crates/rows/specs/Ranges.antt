@@ -2,6 +2,8 @@
 use Rattle.std.specs.Prelude.{◌≡◌, true, ℕ, ◌≤◌}
 use Rattle.rules.specs.Plans.{Plan, attributes, last_row_lem}
 use Rattle.rules.specs.Refusals.{greatest_deviation}
+use Rattle.plan.specs.declared.Plan as program
+use Rattle.plan.specs.declared.Plan.TheVariants.{KnownDeviation}
 use Rattle.tables.specs.Tables.{compares_roots}
 
 -- plan 3: the number of a row
@@ -17,8 +19,9 @@ level_most = 50331648
 abbrev pub sum_most : ℕ
 sum_most = 1610612736
 
--- plan 1: a row's number, what is added, the level, and the deviation
-pub record KnownRanges (n added level deviation : ℕ) : Type 0 where
+-- plan 1: the table's plan, a row's number, what is added, the level, and the deviation
+pub record KnownRanges (plan : program.Plan) (n added level deviation : ℕ) : Type 0 where
+  pub known : plan ≡ KnownDeviation
   pub least : 3 ≤ n
   pub most : n ≤ 32
   pub added-most : added ≤ sum_most

@@ -8,7 +8,6 @@ ghost use Rattle.rules.specs.Logarithm.{squarings};
 ghost use Rattle.rules.specs.Plans as rules;
 ghost use Rattle.rows.specs.Row.{row_is};
 ghost use Rattle.plan.specs.Plan.{plan_is};
-ghost use Rattle.plan.specs.declared.Plan.TheVariants.{KnownDeviation};
 ghost use Rattle.tables.specs.Tables.{numbers_of_lem, PassNumbers, FailNumbers};
 ghost use Rattle.rows.specs.Ranges.{KnownRanges, RootRanges, RowRange};
 
@@ -34,8 +33,7 @@ const LOG_OF_TWO: u64 = 693147181;
 // Each term that document 01 has with a minus stands on the other side, so that all is unsigned.
 // For `statistics` alone, with sums over the engines of an accepted sheet: so it may require.
 pub fn known_row(n: u64, table: PlanTable, added: u64, level: u64, deviation: u64) -> Row
-    requires known_ranges { KnownRanges n added level deviation }
-    requires known { table.plan ≡ KnownDeviation }
+    requires { KnownRanges table.plan n added level deviation }
     ensures { row_is result ≡ rules.decide (rules.known_passes squarings n (pos added -ℤ pos (n * level)) deviation)
         (eqb n (rules.last_row_lem rules.known_deviation_lem))
         (rules.known_fails squarings n (pos added -ℤ pos (n * level)) deviation) }

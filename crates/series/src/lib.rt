@@ -57,7 +57,7 @@ pub fn evidence(size: usize, bytes: &[u8]) -> Result<&[u8], Refusal>
     let size = Size::try_from(size)?;
     let checked = check_sheet(size, bytes);
     let Ok(said) = checked else {
-        return Err(why_refused(checked));
+        return Err(why_refused(checked)); // "as judge"
     };
     let end = evidence_end(AcceptedSheet { size, bytes, said });
     Ok(&bytes[..end])

@@ -1,7 +1,7 @@
 // Plan 3: "c = engines with x > L"; 02, F-2: "attributes compare x_j × value with L × x_1". It takes no logarithm.
-ghost use Rattle.std.specs.Prelude.{ℕ, ◌≡◌};
+ghost use Rattle.std.specs.Prelude.{ℕ};
 ghost use Rattle.plan.specs.declared.Plan.TheVariants.{Attributes};
-ghost use Rattle.statistics.specs.Columns.{CorrectedIn, DecidesIn};
+ghost use Rattle.statistics.specs.Columns.{CountsIn, DecidesIn};
 
 use corrections::{Correction, most_uncounted};
 use decisions::Decision;
@@ -18,8 +18,7 @@ pub(crate) fn column(
     correction: Correction,
     rows: usize,
 ) -> Decision
-    requires counts { sheet.plan ≡ Attributes }
-    requires corrected { CorrectedIn sheet Attributes number limit correction 0 rows }
+    requires { CountsIn sheet number limit correction rows }
     ensures { (t : ℕ) → DecidesIn sheet.entry Attributes number limit t rows result }
 {
     let pass = pass_numbers();

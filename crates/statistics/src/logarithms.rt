@@ -1,5 +1,4 @@
 // Plans 1, 2, 4 and 5: the sums of the measurements' logarithms and of their squares, and the rows by them.
-ghost use Rattle.std.specs.Prelude.{◌≡◌};
 ghost use Rattle.statistics.specs.Column.{RowFrom};
 ghost use Rattle.statistics.specs.Columns.{LogarithmsIn, DecidesIn};
 ghost use Rattle.statistics.specs.Ranges.{RowRange};
@@ -46,8 +45,7 @@ pub(crate) fn column(
     rows: usize,
     table: PlanTable,
 ) -> Decision
-    requires logarithms_range { LogarithmsIn sheet number limit correction deviation rows }
-    requires own { table.plan ≡ sheet.plan }
+    requires { LogarithmsIn sheet number limit correction deviation rows table.plan }
     ensures { DecidesIn sheet.entry sheet.entry.plan number limit deviation rows result }
 {
     let first = first_row(sheet);

@@ -1,7 +1,9 @@
 -- What the records before one say, as the program keeps it: a record at a time.
-use Rattle.std.specs.Prelude.{◌+◌, ◌<◌, Bool, ◌||◌, cond, eqb}
+use Rattle.std.specs.Prelude.{ℕ, ◌+◌, ◌≤◌, ◌<◌, Bool, ◌||◌, cond, eqb}
+use Rattle.rules.specs.Logarithm.{greatest}
 use Rattle.rules.specs.Sheet.{Record, pollutant_kind, engine_kind, stop_kind, small_engine_kind, run_in_kind, kind, number, plan, limit}
 use Rattle.rules.specs.Plans.{in_service_lem, number_of, plan_of, last_row_lem}
+use Rattle.pollutants.specs.declared.Each.{Each}
 use Rattle.pollutants.specs.Each.{all_lem, with_lem}
 use Rattle.summary.specs.declared.Summary.{Summary}
 
@@ -46,3 +48,16 @@ pub record Room (s : Summary) : Type 0 where
   pub pollutants : s.pollutants < 1000
   pub head : s.head < 1000
   pub engines : s.engines < 1000
+
+-- a limit in range; 0 stands for an undeclared pollutant
+pub record LimitRange (limit : ℕ) : Type 0 where
+  pub most : limit ≤ greatest
+
+-- the limits of pollutants that have no fault
+pub record Limits (limits : Each ℕ) : Type 0 where
+  pub co : LimitRange limits.co
+  pub hc : LimitRange limits.hc
+  pub nox : LimitRange limits.nox
+  pub pm : LimitRange limits.pm
+  pub fifth : LimitRange limits.fifth
+  pub sixth : LimitRange limits.sixth

@@ -58,6 +58,10 @@ next size moved tries failed (Err e) = after_failure moved tries e (pause_before
 
 -- ---- ranges
 
+-- behind the first `moved` of so many bytes
+pub record Place (moved size : ℕ) : Type 0 where
+  pub inside : moved ≤ size
+
 -- a call moves no more bytes than there is room for
 abbrev pub bytes_of : Answer → ℕ
 bytes_of (Ok n) = n

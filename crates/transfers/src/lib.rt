@@ -1,10 +1,10 @@
 // Reading and writing by calls of std's `Read` and `Write`, so that a call which fails is never taken for the end: one that may be made again is, and else the whole fails.
 #![tactic(auto)]
 
-ghost use Rattle.std.specs.Prelude.{◌≡◌, ◌≤◌, ℕ, length, take, IfOk, refl, ⊤};
+ghost use Rattle.std.specs.Prelude.{◌≡◌, ℕ, length, take, IfOk, refl, ⊤};
 ghost use Rattle.std.specs.Io.KnownBytes.{Consumes, Appends, IsAtEnd};
 ghost use Rattle.std.proofs.KnownBytes.{Consumes-nil, Appends-nil};
-ghost use Rattle.transfers.specs.Transfers.{pause_before, further, again, next, Room, Over};
+ghost use Rattle.transfers.specs.Transfers.{pause_before, further, again, next, Place, Room, Over};
 ghost use Rattle.transfers.specs.Bytes.{MovedOn, HasMoved, HasRead, HasWritten};
 
 use std::io::{ErrorKind, Read, Write};
@@ -120,7 +120,7 @@ trait Moves {
 
     // One call, for the bytes behind the first `moved`.
     fn call(&mut self, moved: usize) -> io::Result<usize>
-        requires { moved ≤ size self.old }
+        requires { Place moved (size self.old) }
         ensures kept { size self.new ≡ size self.old }
         ensures room { Room (size self.old) moved result }
         ensures moves { (first : Self) → Moved first self.old moved

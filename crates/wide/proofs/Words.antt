@@ -1,6 +1,11 @@
--- Numbers of two words, for all widths of the words: their order.
-use Rattle.arithmetic.proofs.Basics.{◌≡◌, ap, cond, ⊎_elim, ℕ, ◌+◌, ◌*◌, ◌^◌, ◌<◌, arith, mul-le-mul_right}
+-- Numbers of two words, for all widths of the words: the upper word of a product, and the order.
+use Rattle.arithmetic.proofs.Basics.{◌≡◌, ap, cond, ⊎_elim, ℕ, ◌+◌, ◌*◌, ◌^◌, ◌<◌, arith, mul-le-mul_left, mul-le-mul_right, le_of_lt, lt_of_mul-lt-mul_right}
 use Rattle.arithmetic.proofs.Basics.{ltb, eqb, eqb-true, eqb-false, by-test, lt-or-ge, ltb-same}
+
+-- the upper digit of a product of two digits is a digit
+pub upper_lt : (B h l a b : ℕ) → a < B → b < B → h * B + l ≡ a * b → h < B
+upper_lt B h l a b ha hb e =
+    lt_of_mul-lt-mul_right B (omega (arith, mul-le-mul_left a (le_of_lt hb), mul-le-mul_right B ha))
 
 -- the order of two numbers of two words of k bits: by the upper words, and where those are equal by the lower
 upper-decides : (k h l h' l' : ℕ) → l < 2 ^ k → h < h' → h * 2 ^ k + l < h' * 2 ^ k + l'

@@ -18,8 +18,9 @@ one_left {logs} {w} {b} {start} {p} {rows} {i} s z l xe ye =
           rw (first, q) (get_or-set_same logs 0 _ 0 in-room ∙ ye ∙ ap (g squarings) (xe ∙ measured-in w b start p rows (omega arith)));
     }
 
-pub put_four-requires-clause-number : goal.put_four-requires-clause-number
-put_four-requires-clause-number c = rw c.measured_or_one-x.ensures (or-ranges _ _ _ _ _ c.args.column.in_range _)
+pub put_four-requires : goal.put_four-requires
+put_four-requires c =
+    record { number = rw c.measured_or_one-x.ensures (or-ranges _ _ _ _ _ c.args.column.in_range _); some = omega (arith, c.requires.some) }
 
 pub returns-then-i-column : goal.returns-then-i-column
 returns-then-i-column c = one_left c.requires.last c.if-i-eq0.true c.if-i-column.true c.measured_or_one-x.ensures c.log2.ensures

@@ -13,16 +13,19 @@ moved_on s b at e h =
     let more : at < length (records_sized s b) = omega (arith, ap (λ (x : Turn). x.left) e) in
     (ap (λ (x : Turn). x.next) e ∙ (rw (lt-ltb at (length (records_sized s b)) more)), more)
 
-pub loop-init : goal.loop-init
-loop-init c = (omega arith, omega arith)
+pub loop-at-init : goal.loop-at-init
+loop-at-init c = (omega arith, omega arith)
 
 pub returns-then-turn-eq0 : goal.returns-then-turn-eq0
 unfolding reached left_at_lem
-returns-then-turn-eq0 c = omega (arith, c.loop.invariant, ap (λ (x : Turn). x.left) c.turn_at-turn.ensures)
+returns-then-turn-eq0 c = omega (arith, c.loop-at.invariant, ap (λ (x : Turn). x.left) c.turn_at-turn.ensures)
 
-pub loop-preserved : goal.loop-preserved
-loop-preserved c = let m = moved_on _ _ _ c.turn_at-turn.ensures c.if-turn-eq0.false in (omega (arith, c.loop.invariant, m), omega (arith, m))
+pub loop-at-preserved : goal.loop-at-preserved
+loop-at-preserved c = let m = moved_on _ _ _ c.turn_at-turn.ensures c.if-turn-eq0.false in (omega (arith, c.loop-at.invariant, m), omega (arith, m))
+
+pub loop-at-smaller : goal.loop-at-smaller
+loop-at-smaller c = omega (arith, c.loop-at-test.true, moved_on _ _ _ c.turn_at-turn.ensures c.if-turn-eq0.false)
 
 pub returns : goal.returns
 unfolding reached
-returns c = omega (arith, c.loop.invariant, c.loop-test.false)
+returns c = omega (arith, c.loop-at.invariant, c.loop-at-test.false)

@@ -11,8 +11,9 @@ returns-then-rows-lt3 c =
     record { declared = refl; decides = sym (early-open (width_is a.sheet.size) a.sheet.plan a.sheet.bytes.now a.number a.limit a.deviation _ c.if-rows-lt3.true) }
 
 -- where there are rows, the sheet has an engine
-pub correction_of-correction-requires-clause-tested : goal.correction_of-correction-requires-clause-tested
-correction_of-correction-requires-clause-tested c = omega (arith, c.if-rows-lt3.false, (in-engines c.args.sheet.accepted c.requires).0)
+pub correction_of-correction-requires : goal.correction_of-correction-requires
+correction_of-correction-requires c =
+    record { declared = c.requires.declared; tested = omega (arith, c.if-rows-lt3.false, (in-engines c.args.sheet.accepted c.requires).0) }
 
 pub returns-in-None : goal.returns-in-None
 returns-in-None c = rw (none-named c.args.sheet.plan (rw c.in-None.is at c.table_of.ensures.rows)) (c.column-in-None.ensures _)

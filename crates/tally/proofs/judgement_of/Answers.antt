@@ -14,7 +14,7 @@ pub invariant_of-tested : goal.invariant_of-tested
 invariant_of-tested c = record { accepted = accepted-as _ c.args.sheet.valid c.of.ensures }
 
 pub gate_of-gate-requires : goal.gate_of-gate-requires
-gate_of-gate-requires c = laws.engines-are c.args.sheet.valid
+gate_of-gate-requires c = record { all = laws.engines-are c.args.sheet.valid }
 
 opened : (c : After-gate_of-gate) → let a = c.args.sheet in Opened a.size a.bytes.now a.said c.of.result c.gate_of-gate.result
 opened c = record { valid = c.args.sheet.valid; planned = c.of.ensures; gated = c.gate_of-gate.ensures }

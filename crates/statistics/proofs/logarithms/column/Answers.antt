@@ -8,7 +8,7 @@ use Rattle.statistics.proofs.logarithms.column.Goals.{then-first-n+in-Open, else
 pub first_row-first-requires : goal.first_row-first-requires
 first_row-first-requires c =
     let p = c.requires.logarithms_range.corrected in
-    omega (arith, p.least, in-engines c.args.sheet.accepted p.column)
+    record { some = omega (arith, p.least, in-engines c.args.sheet.accepted p.column) }
 
 pub invariant_of-column : goal.invariant_of-column
 invariant_of-column c = record { in_range = measured-range c.args.sheet.accepted c.requires.logarithms_range.corrected.column }
